@@ -16,17 +16,18 @@ use Rattle.tv_base.specs.declared.open_errors.OpenWriteError.TheVariants as writ
 use Rattle.tv_formats.specs.Disk.{Absent, Disk, DiskState, IsThere}
 use Rattle.tv_formats.specs.Files.{Rose}
 use Rattle.tv_directory.specs.Bench.{Numbered, WritesOut, disk_in, of_io, view_in}
-use Rattle.tv_directory.specs.Calls.{IoFaults, Notes}
-use Rattle.tv_directory.specs.Device.{DeviceState, Faulted, IsSilent, after_call, after_refusal}
+use Rattle.tv_device.specs.Calls.{IoFaults, Notes}
+use Rattle.tv_device.specs.Calls.{IsSilent}
+use Rattle.tv_directory.specs.Device.{DeviceState, Faulted, after_call, after_refusal}
 use Rattle.tv_base.specs.Texts.{counted, last}
-use Rattle.tv_directory.specs.Images.{DeletesState, GivesState, KeepsDisk, KeepsStates, MayOpen, OpensState}
-use Rattle.tv_directory.specs.Ram.{KeepsWriters, ram_lives, ram_watched}
+use Rattle.tv_device.specs.Images.{DeletesState, GivesState, KeepsDisk, KeepsStates, MayOpen, OpensState}
+use Rattle.tv_device.specs.Ram.{KeepsWriters, ram_lives, ram_watched}
 use Rattle.tv_directory.specs.Record.{RecordedRefused}
-use Rattle.tv_directory.specs.StoredFiles.{reads_of, states_of}
+use Rattle.tv_device.specs.StoredFiles.{reads_of, states_of}
 use Rattle.tv_directory.specs.declared.bench.Bench.{Bench}
-use Rattle.tv_directory.specs.declared.files.StoredFile.{StoredFile}
-use Rattle.tv_directory.specs.declared.ram_directory.RamDirectory.{RamDirectory}
-use Rattle.tv_directory.specs.declared.ram_directory.RamWriter.{RamWriter}
+use Rattle.tv_device.specs.declared.files.StoredFile.{StoredFile}
+use Rattle.tv_device.specs.declared.ram_directory.RamDirectory.{RamDirectory}
+use Rattle.tv_device.specs.declared.ram_directory.RamWriter.{RamWriter}
 use Rattle.tv_directory.proofs.Benches.{Aside, Failed, same_ram, untold, untouched}
 use Rattle.tv_directory.proofs.ShowsNothing.{StillNone, at_memory, no_rise}
 use Rattle.tv_directory.proofs.Recorded.{may_add, read_there, unread_absent}

@@ -5,13 +5,13 @@ use Rattle.std.proofs.lemmas.List.{length-append}
 use Rattle.tv_formats.specs.Files.{Same}
 use Rattle.tv_directory.specs.Bench.{OnlyRecords, Timed, Untold, Untouched, view_in}
 use Rattle.tv_directory.specs.Device.{DeviceState, Faulted, after_call, after_fault, is_refused}
-use Rattle.tv_directory.specs.Ram.{ram_reads, ram_view}
+use Rattle.tv_device.specs.Ram.{ram_reads, ram_view}
 use Rattle.tv_directory.specs.Record.{RecordState, has_line_room}
-use Rattle.tv_directory.specs.View.{Frame, GoesOn, Kept, MayDelete, tells_all}
-use Rattle.tv_directory.specs.ViewLaws.{kept_itself}
+use Rattle.tv_device.specs.View.{Frame, GoesOn, Kept, MayDelete, tells_all}
+use Rattle.tv_device.specs.ViewLaws.{kept_itself}
 use Rattle.tv_directory.specs.declared.bench.Bench.{Bench}
 use Rattle.tv_directory.specs.declared.bench_record.Call.{Call}
-use Rattle.tv_directory.specs.declared.ram_directory.RamDirectory.{RamDirectory}
+use Rattle.tv_device.specs.declared.ram_directory.RamDirectory.{RamDirectory}
 use Rattle.tv_directory.proofs.Recorded.{room_kept}
 
 -- ---- calls that changed nothing but the device and what was recorded

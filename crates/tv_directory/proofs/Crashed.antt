@@ -6,7 +6,6 @@ use Rattle.std.proofs.lemmas.List.{length-append, nil_from_length, take-append-d
 use Rattle.std.proofs.lemmas.List.Elements.{Contains-get_or, Contains-push}
 use Rattle.std.proofs.lemmas.List.Folds.{list_any-append, list_any_more, list_any_none}
 use Rattle.std.specs.List.{Contains, flat_map, list_any}
-use Rattle.std.specs.BTreeMap.{is_at}
 use Rattle.std.specs.Option.{unwrap_or}
 use Rattle.std.specs.List.Sorted.{IsStrictlySortedBy}
 use Rattle.std.specs.Ordering.{is_eq}
@@ -17,16 +16,15 @@ use Rattle.tv_formats.specs.Disk as disk
 use Rattle.tv_formats.specs.Files.{Reads, Same, Sets}
 use Rattle.tv_formats.specs.Names.{byte_cmp, has, is, at}
 use Rattle.tv_formats.proofs.Entries.{at_itself, is_by_order, is_itself, is_text}
-use Rattle.tv_formats.proofs.CollectedNames.{or_moved}
 use Rattle.tv_directory.specs.declared.bench.Bench.{Bench}
 use Rattle.tv_directory.specs.declared.bench_record.Call.{Call}
 use Rattle.tv_directory.specs.declared.bench_record.Call.TheVariants.{Replaced, Refused, Told, Synced}
-use Rattle.tv_directory.specs.declared.files.StoredFile.{StoredFile}
+use Rattle.tv_device.specs.declared.files.StoredFile.{StoredFile}
 use Rattle.tv_directory.specs.Bench.{disk_in}
 use Rattle.tv_directory.specs.Crashes.{LeavesBy, changes, is_known, left_in, left_of, numbered}
-use Rattle.tv_directory.specs.Ram.{ram_reads, ram_states}
+use Rattle.tv_device.specs.Ram.{ram_reads, ram_states}
 use Rattle.tv_directory.specs.Record.{found_by, since_sync, states_at, stood_before}
-use Rattle.tv_directory.specs.StoredFiles.{bytes_of, is_there, disk_state_of}
+use Rattle.tv_device.specs.StoredFiles.{bytes_of, is_there, disk_state_of}
 
 -- where no call names it, a name stood as it stands
 stood_still : (calls : List Call) (name : List ℕ) (now : DiskState) → list_any (changes name) calls ≡ false → stood_before calls name now ≡ now
@@ -96,16 +94,6 @@ module _ {C : Type 0} (bench : Bench C) (moment : ℕ) (choice : List ℕ) (imag
   left_is_image reads same = record {
     each = λ n. let (state, possible, may) = left_possible n in (state, possible, subst (λ (r : Option (List ℕ)). MayRead state r) (sym (same n)) may);
   }
-
-found_first : (b : Bool) (file : StoredFile) (rest : Option StoredFile) → is_some (cond b (Some file) rest) ≡ (b || is_some rest)
-found_first true file rest = refl
-found_first false file rest = refl
-
--- the names that were added, and those of the files that are still to come
-pub names_one : (new old : List (List ℕ)) (name : List ℕ) (file : StoredFile) (rest others : List (List ℕ × StoredFile)) (n : List ℕ) {there : Bool} → has new n ≡ (is name n || has old n) → rest ≡ (name, file) ∷ others → (has old n || is_there rest n) ≡ there → (has new n || is_there others n) ≡ there
-names_one new old name file rest others n added first so_far =
-    let there_first : is_there rest n ≡ (is name n || is_there others n) = ap (λ (l : List (List ℕ × StoredFile)). is_there l n) first ∙ found_first (is_at (byte_cmp n) name) file (at others n) ∙ ap (λ (b : Bool). b || is_there others n) (sym (is_by_order n name)) in
-    ap (λ (b : Bool). b || is_there others n) added ∙ or_moved (is name n) (has old n) (is_there others n) ∙ ap (λ (b : Bool). has old n || b) (sym there_first) ∙ so_far
 
 -- A crash leaves the first of some names as they are chosen, and the others aren't there yet.
 pub record LeavesFirst {C : Type 0} (bench : Bench C) (moment : ℕ) (choice choices : List ℕ) (all rest : List (List ℕ)) (image : Reads) : Type 0 where

@@ -3,7 +3,7 @@ use Rattle.std.proofs.Common.{◌≡◌, ◌≤◌, ◌+◌, ℕ, List, [], ◌�
 use Rattle.std.proofs.lemmas.List.{drop-append-le, length-drop, take-append-drop, take-append-le}
 use Rattle.std.proofs.lemmas.List.Sums.{sum_by-cons}
 use Rattle.std.proofs.Math.Seq.{take-length}
-use Rattle.tv_directory.specs.Telling.{bytes_heard, cut, cut_length}
+use Rattle.tv_directory.specs.Pieces.{bytes_heard, cut, cut_length}
 
 -- the first piece is a part of the text, and what is left behind it is cut into the others
 cuts_first : (moment len : ℕ) (others : List (ℕ × ℕ)) (text : List ℕ) → cut_length ((moment, len) ∷ others) ≡ length text → (len ≤ length text) × (cut_length others ≡ length (drop len text))

@@ -1,10 +1,4 @@
-pub mod StoredFiles
-pub mod LockNames
-pub mod CopiedFiles
 pub mod CutTexts
-pub mod WatchLists
-pub mod PersistedFiles
-pub mod TouchedNames
 pub mod Recorded
 pub mod ShowsNothing
 pub mod Benches

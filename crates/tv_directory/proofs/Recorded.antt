@@ -13,14 +13,14 @@ use Rattle.tv_formats.proofs.DiskLaws.{same}
 use Rattle.tv_formats.proofs.Entries.{is_itself, is_text, isnt_text}
 use Rattle.tv_directory.specs.declared.bench_record.Call.{Call}
 use Rattle.tv_directory.specs.declared.bench_record.Call.TheVariants.{Replaced, Refused, Told, Synced}
-use Rattle.tv_directory.specs.declared.files.Content.{Content}
-use Rattle.tv_directory.specs.declared.files.Content.TheVariants as content
-use Rattle.tv_directory.specs.declared.files.StoredFile.{StoredFile}
+use Rattle.tv_device.specs.declared.files.Content.{Content}
+use Rattle.tv_device.specs.declared.files.Content.TheVariants as content
+use Rattle.tv_device.specs.declared.files.StoredFile.{StoredFile}
 use Rattle.std.specs.Prelude.{option_map}
-use Rattle.tv_directory.specs.Images.{KeepsDisk, SetsState}
+use Rattle.tv_device.specs.Images.{KeepsDisk, SetsState}
 use Rattle.tv_directory.specs.Record.{AddsAtMost, RecordState, RecordedRefused, has_line_room, and_since, disk_by, found_by, is_settled, since_sync, settled_by, states_at, stood_before}
 use Rattle.tv_directory.specs.RecordLaws.{stands_now, states_now}
-use Rattle.tv_directory.specs.StoredFiles.{StandsAs, States, bytes_of, is_made, is_number, reads_of, disk_state_of, states_of}
+use Rattle.tv_device.specs.StoredFiles.{StandsAs, States, bytes_of, is_made, is_number, reads_of, disk_state_of, states_of}
 
 -- A call was recorded that gave this name this state.
 pub record Recorded (old new : Disk) (name : List ℕ) (state : DiskState) : Type 0 where

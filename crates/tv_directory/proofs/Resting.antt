@@ -5,7 +5,7 @@ use Rattle.tv_formats.specs.Disk.{Disk, DiskState, MayLeave, MayRead}
 use Rattle.tv_formats.specs.Files.{Reads}
 use Rattle.tv_formats.specs.Sound.{IsSoundDirectory, IsSoundImage}
 use Rattle.tv_directory.specs.Bench.{IsAtRest}
-use Rattle.tv_directory.specs.StoredFiles.{at_rest}
+use Rattle.tv_device.specs.StoredFiles.{at_rest}
 
 reads_at_rest : (file read : Option (List ℕ)) → MayRead (at_rest file) read → read ≡ file
 reads_at_rest None read is = is

@@ -8,13 +8,13 @@ use Rattle.tv_base.specs.declared.io.IoError.TheVariants as io
 use Rattle.tv_base.specs.declared.io.IoFault.{IoFault}
 use Rattle.tv_formats.specs.Files.{Rose, Same}
 use Rattle.tv_formats.specs.Names.{at}
-use Rattle.tv_directory.specs.Calls.{Flushes, Gives, Seals}
-use Rattle.tv_directory.specs.Ram.{ram_lives, ram_reads}
-use Rattle.tv_directory.specs.StoredFiles.{bytes_of, is_number}
-use Rattle.tv_directory.specs.View.{View, WriterState, tells_all}
-use Rattle.tv_directory.specs.declared.files.StoredFile.{StoredFile}
-use Rattle.tv_directory.specs.declared.ram_directory.RamDirectory.{RamDirectory}
-use Rattle.tv_directory.specs.declared.ram_directory.RamWriter.{RamWriter}
+use Rattle.tv_device.specs.Calls.{Flushes, Gives, Seals}
+use Rattle.tv_device.specs.Ram.{ram_lives, ram_reads}
+use Rattle.tv_device.specs.StoredFiles.{bytes_of, is_number}
+use Rattle.tv_device.specs.View.{View, WriterState, tells_all}
+use Rattle.tv_device.specs.declared.files.StoredFile.{StoredFile}
+use Rattle.tv_device.specs.declared.ram_directory.RamDirectory.{RamDirectory}
+use Rattle.tv_device.specs.declared.ram_directory.RamWriter.{RamWriter}
 
 -- ---- errors
 

@@ -8,14 +8,14 @@ use Rattle.tv_base.specs.declared.io.IoError.{IoError}
 use Rattle.tv_base.specs.declared.io.IoFault.{IoFault}
 use Rattle.tv_base.specs.declared.open_errors.DeleteError.{DeleteError}
 use Rattle.tv_directory.specs.Device.{DeviceState, Passed, Faulted, Refused, after_call}
-use Rattle.tv_directory.specs.Locks.{Locks}
-use Rattle.tv_directory.specs.Ram.{KeepsWriters, SameFile, ram_lives, ram_states, ram_view}
+use Rattle.tv_device.specs.Locks.{Locks}
+use Rattle.tv_device.specs.Ram.{KeepsWriters, SameFile, ram_lives, ram_states, ram_view}
 use Rattle.tv_directory.specs.Record.{disk_by, has_line_room}
-use Rattle.tv_directory.specs.StoredFiles.{at_rest}
-use Rattle.tv_directory.specs.View.{View}
+use Rattle.tv_device.specs.StoredFiles.{at_rest}
+use Rattle.tv_device.specs.View.{View}
 use Rattle.tv_directory.specs.declared.bench.Bench.{Bench}
-use Rattle.tv_directory.specs.declared.ram_directory.RamDirectory.{RamDirectory}
-use Rattle.tv_directory.specs.declared.ram_directory.RamWriter.{RamWriter}
+use Rattle.tv_device.specs.declared.ram_directory.RamDirectory.{RamDirectory}
+use Rattle.tv_device.specs.declared.ram_directory.RamWriter.{RamWriter}
 
 -- all that is said of it
 abbrev pub view_in : {C : Type 0} → (C → ℕ) → Bench C → View RamWriter

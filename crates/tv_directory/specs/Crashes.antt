@@ -6,7 +6,7 @@ use Rattle.tv_formats.specs.Disk.{DiskState, Absent, Unsealed, Sealed}
 use Rattle.tv_formats.specs.Files.{Reads}
 use Rattle.tv_formats.specs.Names.{byte_cmp, has, is}
 use Rattle.tv_directory.specs.Record.{states_at}
-use Rattle.tv_directory.specs.Ram.{ram_reads, ram_states}
+use Rattle.tv_device.specs.Ram.{ram_reads, ram_states}
 use Rattle.tv_directory.specs.declared.bench.Bench.{Bench}
 use Rattle.tv_directory.specs.declared.bench_record.Call.{Call}
 use Rattle.tv_directory.specs.declared.bench_record.Call.TheVariants.{Replaced, Refused, Told, Synced}

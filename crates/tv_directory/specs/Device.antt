@@ -1,8 +1,6 @@
 -- The device of a directory in memory.
-use Rattle.std.specs.Prelude.{ℕ, ◌≡◌, ◌≤◌, ◌==◌, ◌&&◌, Bool, true, false, nat_lt, List, [], string_bytes}
+use Rattle.std.specs.Prelude.{ℕ, ◌≡◌, ◌≤◌, ◌==◌, ◌&&◌, Bool, true, false, nat_lt, List}
 use Rattle.std.specs.List.{list_any}
-use Rattle.tv_base.specs.declared.io.IoFault.{IoFault}
-use Rattle.tv_base.specs.Causes.{IsDevice}
 use Rattle.tv_base.specs.Texts.{counted, last}
 
 -- the numbers of the calls that are refused, the number of the next call, and how many calls and how many
@@ -34,10 +32,6 @@ pub record TakesNumber (old new : DeviceState) (refused : Bool) : Type 0 where
   pub answer : refused ≡ is_refused old
   pub number : new ≡ after_call old
   pub fits : old.refusals ≤ last
-
--- a fault of the device, which has no text
-abbrev pub IsSilent : IoFault → Type 0
-IsSilent fault = IsDevice fault × (string_bytes fault.text ≡ [])
 
 -- a call that wasn't refused: it took its number
 pub record Passed (old new : DeviceState) : Type 0 where

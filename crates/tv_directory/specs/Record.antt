@@ -3,8 +3,8 @@ use Rattle.std.specs.Prelude.{ℕ, ◌++◌, ◌∷◌, Bool, true, false, List,
 use Rattle.std.specs.List.{Contains, flat_map, fold}
 use Rattle.tv_formats.specs.Disk.{Disk, DiskState, Unsealed, MayAdd, Elapses, possible_now}
 use Rattle.tv_formats.specs.Names.{is}
-use Rattle.tv_directory.specs.Images.{MayOpen, MaySetState}
-use Rattle.tv_directory.specs.StoredFiles.{States, disk_state_of}
+use Rattle.tv_device.specs.Images.{MayOpen, MaySetState}
+use Rattle.tv_device.specs.StoredFiles.{States, disk_state_of}
 use Rattle.tv_directory.specs.declared.bench_record.Call.{Call}
 use Rattle.tv_directory.specs.declared.bench_record.Call.TheVariants.{Replaced, Refused, Told, Synced}
 

@@ -7,11 +7,11 @@ use Rattle.std.specs.Prelude.{option_map}
 use Rattle.tv_formats.specs.Disk.{DiskState, MayRead}
 use Rattle.tv_formats.specs.Names.{at}
 use Rattle.tv_directory.specs.declared.bench_record.Call.{Call}
-use Rattle.tv_directory.specs.declared.files.Content.{Content}
-use Rattle.tv_directory.specs.declared.files.Content.TheVariants.{Unsealed, Sealed}
-use Rattle.tv_directory.specs.declared.files.StoredFile.{StoredFile}
+use Rattle.tv_device.specs.declared.files.Content.{Content}
+use Rattle.tv_device.specs.declared.files.Content.TheVariants.{Unsealed, Sealed}
+use Rattle.tv_device.specs.declared.files.StoredFile.{StoredFile}
 use Rattle.tv_directory.specs.Record.{found_by, since_sync, states_at, stood_before}
-use Rattle.tv_directory.specs.StoredFiles.{bytes_of, reads_of, disk_state_of, states_of}
+use Rattle.tv_device.specs.StoredFiles.{bytes_of, reads_of, disk_state_of, states_of}
 
 -- the states in which a crash now may leave a name
 pub states_now : (calls : List Call) (name : List ℕ) (now : DiskState)

@@ -6,18 +6,15 @@ ghost use Rattle.tv_formats.specs.Names.{is_file_name};
 ghost use Rattle.tv_base.specs.Causes.{OpenReadCause};
 ghost use Rattle.tv_directory.specs.Bench.{device_in, disk_in, view_in, IsAtRest, IsNewBench, IsSoundWhere, Untouched};
 ghost use Rattle.tv_directory.specs.Device.{after_fault};
-ghost use Rattle.tv_directory.specs.StoredFiles.{AreSealed, named, last_of, reads_of};
-ghost use Rattle.tv_directory.specs.Telling.{bytes_heard};
+ghost use Rattle.tv_device.specs.StoredFiles.{AreSealed, named, last_of, reads_of};
+ghost use Rattle.tv_directory.specs.Pieces.{bytes_heard};
 
 use crate::bench_device::Device;
 use crate::bench_record::Record;
 use crate::bench_told::Told;
-use crate::directory::Directory;
-use crate::files::Files;
-use crate::ram_directory::RamDirectory;
-use crate::watch::WatchCall;
 use std::alloc::Global;
 use tv_base::OpenReadError;
+use tv_device::{Directory, Files, RamDirectory, WatchCall};
 use tv_formats::Memory;
 
 /// A directory in memory, which is also told lines. Its device refuses exactly the calls that

@@ -3,16 +3,14 @@ ghost use Rattle.std.specs.Prelude.{◌≡◌, ◌<◌, true, false, Some, IfOk,
 ghost use Rattle.tv_formats.specs.Names.{is_file_name};
 ghost use Rattle.tv_formats.specs.Disk.{Sealed, Unsealed};
 ghost use Rattle.tv_directory.specs.Bench.{OnlyRecords, disk_in};
-ghost use Rattle.tv_directory.specs.Ram.{ram_states};
+ghost use Rattle.tv_device.specs.Ram.{ram_state, ram_states};
 ghost use Rattle.tv_directory.specs.Record.{RecordedRefused, RefusedOpening, has_line_room};
-ghost use Rattle.tv_directory.specs.StoredFiles.{disk_state_of};
+ghost use Rattle.tv_device.specs.StoredFiles.{disk_state_of};
 
 use crate::bench::Bench;
 use crate::bench_record::Call;
-use crate::files::Content;
-use crate::ram_calls::file_name;
-use crate::ram_directory::RamWriter;
 use tv_base::OwnedBytes;
+use tv_device::{Content, RamWriter, file_name};
 use tv_formats::{FileName, Memory};
 
 // A file that isn't sealed.
@@ -35,7 +33,7 @@ impl<C> Bench<C> {
         ensures others { OnlyRecords self.old self.new }
     {
         let key = file_name(self.alloc, name)?;
-        let content = self.ram.files.content(&key)?;
+        let content = self.ram.content(&key)?;
         self.recorded.reserve()?;
         Ok((key, content))
     }
@@ -88,7 +86,7 @@ impl<C> Bench<C> {
         ensures others { OnlyRecords self.old self.new }
     {
         let key = file_name(self.alloc, name)?;
-        if self.ram.files.has(&key) {
+        if self.ram.has(&key) {
             return Ok(());
         }
         self.record_refused(name, unsealed())
@@ -123,18 +121,14 @@ impl<C> Bench<C> {
         writer: RamWriter,
     ) -> Result<(), Memory>
         ensures images { lives ≡ true → OnOk result (RecordedRefused (disk_in self.old)
-            (disk_in self.new) writer.name (Sealed writer.bytes.items)) }
+            (disk_in self.new) (ram_state writer).name (Sealed (ram_state writer).written)) }
         ensures gone { lives ≡ false → self.new ≡ self.old }
         ensures err { OnErr result (self.new.recorded.calls ≡ self.old.recorded.calls) }
         ensures room { has_line_room self.old.recorded ≡ true
             → has_line_room self.new.recorded ≡ true }
         ensures others { OnlyRecords self.old self.new }
     {
-        let RamWriter {
-            name,
-            number: _,
-            bytes,
-        } = writer;
+        let (name, bytes) = writer.into_parts();
         let sealed = Content::Sealed(OwnedBytes::new(bytes)?);
         self.record_refused_where(lives, name.as_str(), Some(sealed))
     }

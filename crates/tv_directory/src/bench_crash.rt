@@ -5,15 +5,13 @@ ghost use Rattle.tv_formats.specs.Files.{Reads, Sets};
 ghost use Rattle.tv_formats.specs.Names.{has};
 ghost use Rattle.tv_directory.specs.Bench.{device_in, disk_in, IsAtRest, IsNewBench, IsSoundWhere};
 ghost use Rattle.tv_directory.specs.Crashes.{is_known, left_in, left_of, numbered, LeavesBy};
-ghost use Rattle.tv_directory.specs.Ram.{ram_reads};
-ghost use Rattle.tv_directory.specs.StoredFiles.{AreSealed, reads_of, disk_state_of};
+ghost use Rattle.tv_device.specs.Ram.{ram_reads};
+ghost use Rattle.tv_device.specs.StoredFiles.{AreSealed, reads_of, disk_state_of};
 
 use crate::bench::Bench;
-use crate::directory::Directory;
-use crate::files::{Content, Files};
-use crate::watch::WatchCall;
 use std::collections::BTreeSet;
 use tv_base::OwnedBytes;
+use tv_device::{Content, Directory, Files, WatchCall};
 use tv_formats::{FileName, Memory};
 
 impl<C: WatchCall> Bench<C> {
@@ -53,7 +51,7 @@ impl<C: WatchCall> Bench<C> {
             ≡ is_known self.now.recorded.calls (ram_reads self.now.ram) n) }
     {
         let mut names = BTreeSet::new(self.alloc);
-        self.ram.files.add_names(self.alloc, &mut names)?;
+        self.ram.add_names(self.alloc, &mut names)?;
         self.recorded.add_names(self.alloc, &mut names)?;
         Ok(names)
     }
@@ -109,7 +107,7 @@ impl<C: WatchCall> Bench<C> {
         requires { moment ≤ length self.now.recorded.calls }
         ensures { IfOk result (λ left. left ≡ left_in self.now moment name.now number) }
     {
-        let now = self.ram.files.content(name)?;
+        let now = self.ram.content(name)?;
         let states = self.recorded.states(self.alloc, moment, name, now)?;
         left_of(&states, number)
     }

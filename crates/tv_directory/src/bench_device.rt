@@ -1,6 +1,7 @@
 //! The device of a directory in memory, which refuses the calls that it is told to refuse.
 ghost use Rattle.std.specs.Prelude.{◌≡◌, []};
-ghost use Rattle.tv_directory.specs.Device.{TakesNumber, after_fault, after_refusal, IsSilent};
+ghost use Rattle.tv_device.specs.Calls.{IsSilent};
+ghost use Rattle.tv_directory.specs.Device.{TakesNumber, after_fault, after_refusal};
 
 use std::alloc::Global;
 use std::marker::Model;

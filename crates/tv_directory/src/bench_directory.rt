@@ -4,29 +4,26 @@ ghost use Rattle.std.specs.Prelude.{refl, ◌≡◌, ◌<◌, true, length, is_s
 ghost use Rattle.tv_formats.specs.Names.{is_file_name};
 ghost use Rattle.tv_formats.specs.Files.{has_no_feed};
 ghost use Rattle.tv_base.specs.Causes.{OpenReadCause, OpenWriteCause};
-ghost use Rattle.tv_directory.specs.View.{tells_all, Frame, Kept, OnlyReads, OnlyLocks, OnlyWatches, OnlyTells, MayDelete};
-ghost use Rattle.tv_directory.specs.Calls.{AskFaults, ReadFaults, OpenFaults, IoFaults, DeviceFaults, DeleteFaults, LockFaults, Frees, MakesRoom};
-ghost use Rattle.tv_directory.specs.Calls.{IsNewWriter, Makes, Appends, Touches, Flushes, Seals, Gives, Notes, Deletes, EndsWriters, Acquires, TellsLineTo};
-ghost use Rattle.tv_directory.specs.Device.{IsSilent};
-ghost use Rattle.tv_directory.specs.Images.{KeepsDisk, GivesState, OpensState, WritesState, DeletesState, Settles};
+ghost use Rattle.tv_device.specs.View.{tells_all, Frame, Kept, OnlyReads, OnlyLocks, OnlyWatches, OnlyTells, MayDelete};
+ghost use Rattle.tv_device.specs.Calls.{AskFaults, ReadFaults, OpenFaults, IoFaults, DeviceFaults, DeleteFaults, LockFaults, Frees, MakesRoom};
+ghost use Rattle.tv_device.specs.Calls.{IsNewWriter, Makes, Appends, Touches, Flushes, Seals, Gives, Notes, Deletes, EndsWriters, Acquires, TellsLineTo};
+ghost use Rattle.tv_device.specs.Calls.{IsSilent};
+ghost use Rattle.tv_device.specs.Images.{KeepsDisk, GivesState, OpensState, WritesState, DeletesState, Settles};
 ghost use Rattle.tv_directory.specs.RecordLaws.{reads_now, stands_now};
-ghost use Rattle.tv_directory.specs.Locks.{LockCause};
-ghost use Rattle.tv_directory.specs.Ram.{OnlyHeld, OnlyWatchers, ram_lives, ram_state, ram_states};
+ghost use Rattle.tv_device.specs.Locks.{LockCause};
+ghost use Rattle.tv_device.specs.Ram.{OnlyHeld, OnlyWatchers, ram_lives, ram_state, ram_states};
 ghost use Rattle.tv_directory.specs.Bench.{view_in, disk_in, Untouched, Timed, Untold, OnlyTold, OnlyRoom, Below, NumberedBelow, ShowsNothing, WritesOut};
 ghost use Rattle.tv_directory.specs.Bench.{Numbered, NumberedDelete, of_io, of_write, of_device};
-ghost use Rattle.tv_directory.specs.Watch.{IsNewWatcher, delivered, unsubscribed};
+ghost use Rattle.tv_device.specs.Watch.{IsNewWatcher, delivered, unsubscribed};
 
 use crate::bench::Bench;
 use crate::bench_changes::unsealed;
 use crate::bench_record::Call;
-use crate::directory::Directory;
-use crate::lock::{DirectoryLock, Lock};
-use crate::outside::Outside;
-use crate::ram_calls::file_name;
-use crate::ram_directory::RamWriter;
-use crate::watch::{WatchCall, WatchHandle};
 use tv_base::{
     DeleteError, FileSlice, IoError, IoFault, LockError, OpenReadError, OpenWriteError, OwnedBytes,
+};
+use tv_device::{
+    Directory, DirectoryLock, Lock, Outside, RamWriter, WatchCall, WatchHandle, file_name,
 };
 use tv_formats::Memory;
 
@@ -152,17 +149,17 @@ impl<C: WatchCall> Directory for Bench<C> {
         ensures frame { Kept tells_all (view_in C.calls self.old) (view_in C.calls self.new) }
         ensures device { Numbered (WritesOut writer.old) of_io self.old self.new result }
         ensures images { WritesState (ram_lives self.old.ram writer.old) (disk_in self.old)
-            (disk_in self.new) writer.old.name Unsealed result }
+            (disk_in self.new) (ram_state writer.old).name Unsealed result }
     {
-        let lives = self.ram.files.is_made(&writer.name, writer.number);
+        let lives = self.ram.is_made(writer);
         if self.device.refuses() {
-            self.record_refused_where(lives, writer.name.as_str(), unsealed())?;
+            self.record_refused_where(lives, writer.name().as_str(), unsealed())?;
             return Err(IoError::Fault(self.device.fault()));
         }
         if !lives {
             return Ok(());
         }
-        let (name, before) = self.before(writer.name.as_str())?;
+        let (name, before) = self.before(writer.name().as_str())?;
         self.ram.flush(writer)?;
         self.recorded.add(Call::Replaced { name, before });
         Ok(())
@@ -176,9 +173,9 @@ impl<C: WatchCall> Directory for Bench<C> {
         ensures frame { Kept tells_all (view_in C.calls self.old) (view_in C.calls self.new) }
         ensures device { Numbered (WritesOut writer) of_io self.old self.new result }
         ensures images { WritesState (ram_lives self.old.ram writer) (disk_in self.old)
-            (disk_in self.new) writer.name (Sealed writer.bytes.items) result }
+            (disk_in self.new) (ram_state writer).name (Sealed (ram_state writer).written) result }
     {
-        let lives = self.ram.files.is_made(&writer.name, writer.number);
+        let lives = self.ram.is_made(&writer);
         if self.device.refuses() {
             self.record_refused_end(lives, writer)?;
             return Err(IoError::Fault(self.device.fault()));
@@ -186,7 +183,7 @@ impl<C: WatchCall> Directory for Bench<C> {
         if !lives {
             return Ok(());
         }
-        let (name, before) = self.before(writer.name.as_str())?;
+        let (name, before) = self.before(writer.name().as_str())?;
         self.ram.terminate(writer)?;
         self.recorded.add(Call::Replaced { name, before });
         Ok(())

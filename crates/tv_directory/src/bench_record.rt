@@ -5,14 +5,13 @@ ghost use Rattle.tv_formats.specs.Disk.{DiskState};
 ghost use Rattle.tv_formats.specs.Names.{has, is};
 ghost use Rattle.tv_directory.specs.Crashes.{changes};
 ghost use Rattle.tv_directory.specs.Record.{and_since, found_by, has_line_room, is_settled, is_sync, settled_by, since_sync, states_at, stood_before};
-ghost use Rattle.tv_directory.specs.StoredFiles.{disk_state_of};
+ghost use Rattle.tv_device.specs.StoredFiles.{disk_state_of};
 ghost use Rattle.tv_directory.specs.declared.bench_record.Call.{Call};
 
-use crate::files::Content;
-use crate::ram_calls::file_name;
 use std::alloc::Global;
 use std::collections::BTreeSet;
 use std::marker::Model;
+use tv_device::{Content, add_name};
 use tv_formats::{FileName, Memory};
 
 /// A call that is recorded.
@@ -221,19 +220,6 @@ impl Record {
         states.push(last)?;
         Ok(states)
     }
-}
-
-// Adds a name.
-pub(crate) fn add_name(
-    alloc: Global,
-    names: &mut BTreeSet<FileName>,
-    name: &FileName,
-) -> Result<(), Memory>
-    ensures { OnOk result ((n : List ℕ) → has names.new.keys n
-        ≡ (is name.now n || has names.old.keys n)) }
-{
-    names.insert(file_name(alloc, name.as_str())?)?;
-    Ok(())
 }
 
 // How the calls since the last sync among these found a name, and how they may have left it.

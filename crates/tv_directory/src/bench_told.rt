@@ -1,6 +1,6 @@
 //! What was told to a directory in memory.
 ghost use Rattle.std.specs.Prelude.{◌≡◌, ◌<◌, ◌++◌, [], ◌∷◌, length, IfOk};
-ghost use Rattle.tv_directory.specs.Telling.{ReservesRoom, bytes_heard};
+ghost use Rattle.tv_directory.specs.Pieces.{ReservesRoom, bytes_heard};
 
 use std::alloc::Global;
 use std::marker::Model;
@@ -20,7 +20,7 @@ pub struct Told {
 impl Model for Told {
     ghost use Rattle.std.specs.Prelude.{ℕ, ◌≡◌, ◌-◌, length, vec_len, vec_capacity};
     ghost use Rattle.tv_formats.specs.Files.{Heard};
-    ghost use Rattle.tv_directory.specs.Telling.{cut, cut_length, room_of};
+    ghost use Rattle.tv_directory.specs.Pieces.{cut, cut_length, room_of};
 
     ghost Value = { Heard × ℕ };
 

@@ -1,4 +1,5 @@
-//! Directories: what the layers above may do with one, and those in memory.
+//! A directory in memory whose device fails where it is told to, and what a crash leaves of it; and all that
+//! stands below it.
 #![tactic(auto)]
 
 mod bench;
@@ -8,26 +9,11 @@ mod bench_device;
 mod bench_directory;
 mod bench_record;
 mod bench_told;
-mod desk;
-mod dir_writer;
-mod directory;
-mod files;
 mod laws;
-mod lock;
-mod outside;
-mod persist;
-mod ram_calls;
-mod ram_directory;
-mod watch;
-mod watch_list;
 
 pub use bench::Bench;
-pub use desk::Desk;
-pub use dir_writer::DirWriter;
-pub use directory::Directory;
-pub use laws::what_reads_is_an_image;
-pub use lock::{DirectoryLock, Lock, index_writer_lock, meta_lock};
-pub use outside::Outside;
-pub use ram_directory::{RamDirectory, RamWriter};
-pub use watch::{NoWatch, WatchCall, WatchCallback, WatchHandle};
-pub use watch_list::{CallbackList, WatchCallbackList, Watchers};
+pub use tv_device::{
+    CallbackList, Desk, DirWriter, Directory, DirectoryLock, Lock, NoWatch, Outside, RamDirectory,
+    RamWriter, WatchCall, WatchCallback, WatchCallbackList, WatchHandle, Watchers,
+    index_writer_lock, meta_lock, what_reads_is_an_image,
+};

@@ -12,11 +12,11 @@ use Rattle.tv_base.specs.declared.open_errors.DeleteError.{DeleteError}
 use Rattle.tv_base.specs.declared.open_errors.DeleteError.TheVariants as delete
 use Rattle.tv_base.specs.declared.open_errors.LockError.{LockError}
 use Rattle.tv_base.specs.declared.open_errors.LockError.TheVariants as lock
-use Rattle.tv_directory.specs.Calls.{AskFaults, DeleteFaults, IoFaults, LockFaults, Notes, OpenFaults, ReadFaults}
+use Rattle.tv_device.specs.Calls.{AskFaults, DeleteFaults, IoFaults, LockFaults, Notes, OpenFaults, ReadFaults}
 use Rattle.tv_base.specs.Texts.{counted, last}
-use Rattle.tv_directory.specs.Locks.{LockCause}
-use Rattle.tv_directory.specs.View.{MayDelete, OnlyLocks, OnlyReads, tells_nothing}
-use Rattle.tv_directory.specs.WatchList.{watch_state_of}
+use Rattle.tv_device.specs.Locks.{LockCause}
+use Rattle.tv_device.specs.View.{MayDelete, OnlyLocks, OnlyReads, tells_nothing}
+use Rattle.tv_device.specs.WatchList.{watch_state_of}
 use Rattle.tv_files.specs.Folders.{FolderState, after_fault, after_refusal, folder_view}
 
 -- what is as it was is so but for its count of faults

@@ -4,9 +4,9 @@ use Rattle.tv_base.specs.Causes.{IsDevice}
 use Rattle.tv_base.specs.declared.open_errors.OpenDirectoryError.{OpenDirectoryError}
 use Rattle.tv_base.specs.declared.open_errors.OpenDirectoryError.TheVariants as directory
 use Rattle.tv_base.specs.Texts.{counted}
-use Rattle.tv_directory.specs.View.{View, WriterState}
-use Rattle.tv_directory.specs.WatchList.{watch_state_of}
-use Rattle.tv_directory.specs.declared.watch_list.Watchers.{Watchers}
+use Rattle.tv_device.specs.View.{View, WriterState}
+use Rattle.tv_device.specs.WatchList.{watch_state_of}
+use Rattle.tv_device.specs.declared.watch_list.Watchers.{Watchers}
 
 -- who watches, and how many calls other than deletes the operating system refused, and how many deletes
 pub record FolderState (C : Type 0) : Type 0 where

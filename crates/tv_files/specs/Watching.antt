@@ -3,9 +3,9 @@ use Rattle.std.specs.Prelude.{ℕ, ◌≡◌, ◌≢◌, ◌++◌, Bool, true, f
 use Rattle.tv_base.specs.Entries.{is_numbered}
 use Rattle.tv_base.specs.declared.inventory.Entry.{Entry}
 use Rattle.tv_base.specs.Texts.{counted}
-use Rattle.tv_directory.specs.Watch.{Registration, called_once}
-use Rattle.tv_directory.specs.WatchList.{seen as seen_of}
-use Rattle.tv_directory.specs.declared.watch_list.Watcher.{Watcher}
+use Rattle.tv_device.specs.Watch.{Registration, called_once}
+use Rattle.tv_device.specs.WatchList.{seen as seen_of}
+use Rattle.tv_device.specs.declared.watch_list.Watcher.{Watcher}
 
 -- the checksum of the lines that was seen last, if one was; who is registered; and how many looks the
 -- operating system refused

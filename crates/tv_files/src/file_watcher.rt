@@ -13,7 +13,7 @@ use std::marker::Model;
 use std::rt::Files;
 use tv_base::IoError;
 use tv_checksum::{Checksum, Crc32};
-use tv_directory::{CallbackList, WatchCall, WatchHandle};
+use tv_device::{CallbackList, WatchCall, WatchHandle};
 use tv_formats::Memory;
 
 /// A file that is watched: whoever is registered is called when the checksum of its lines is

@@ -5,7 +5,7 @@ use std::fs::{File, OpenOptions};
 use std::io::{ErrorKind, Read, Write};
 use std::rt::Files;
 use std::{fs, io};
-use tv_directory::Lock;
+use tv_device::Lock;
 
 // No file that is read whole is longer.
 const LONGEST: u64 = 1 << 40;

@@ -1,6 +1,6 @@
 //! The calls of a directory of plain files.
 ghost use Rattle.tv_formats.specs.Disk.{no_disk};
-ghost use Rattle.tv_directory.specs.View.{tells_nothing};
+ghost use Rattle.tv_device.specs.View.{tells_nothing};
 ghost use Rattle.tv_files.specs.Folders.{folder_view};
 
 use crate::mmap_directory::{MmapDirectory, file_name};
@@ -11,7 +11,7 @@ use std::rt::Files;
 use tv_base::{
     DeleteError, FileSlice, IoError, IoFault, LockError, OpenReadError, OpenWriteError, OwnedBytes,
 };
-use tv_directory::{Directory, DirectoryLock, Lock, WatchCall, WatchHandle};
+use tv_device::{Directory, DirectoryLock, Lock, WatchCall, WatchHandle};
 use tv_formats::Memory;
 
 impl<R: Files<File = File> + Drop, C: WatchCall> Directory for MmapDirectory<R, C> {

@@ -2,7 +2,7 @@
 ghost use Rattle.std.specs.Prelude.{◌≡◌, ◌++◌, true, OnOk, IfOk};
 ghost use Rattle.std.specs.Str.Lines.{lines};
 ghost use Rattle.tv_formats.specs.Names.{is_file_name};
-ghost use Rattle.tv_directory.specs.WatchList.{watch_state_of};
+ghost use Rattle.tv_device.specs.WatchList.{watch_state_of};
 
 use crate::file_watcher::{FileWatcher, checksum_of_lines};
 use crate::mmap_directory::MmapDirectory;
@@ -10,7 +10,7 @@ use crate::mmap_writer::MmapWriter;
 use std::fs::File;
 use std::rt::Files;
 use tv_base::{DeleteError, IoError, META_FILEPATH};
-use tv_directory::{Directory, WatchCall};
+use tv_device::{Directory, WatchCall};
 
 /// Once `meta.json` is written, a notice stands for those who watch the folder.
 pub fn a_commit_leaves_a_notice<R: Files<File = File> + Drop, C: WatchCall>(

@@ -2,10 +2,10 @@
 ghost use Rattle.std.specs.Prelude.{◌≡◌, [], true, false, IfOk, IfErr};
 ghost use Rattle.tv_formats.specs.Names.{is_file_name};
 ghost use Rattle.tv_base.specs.Causes.{DeleteCause, IoCause, IsDevice, OpenReadCause, OpenWriteCause};
-ghost use Rattle.tv_directory.specs.Device.{IsSilent};
-ghost use Rattle.tv_directory.specs.Locks.{LockCause};
-ghost use Rattle.tv_directory.specs.Watch.{noted};
-ghost use Rattle.tv_directory.specs.WatchList.{watch_state_of};
+ghost use Rattle.tv_device.specs.Calls.{IsSilent};
+ghost use Rattle.tv_device.specs.Locks.{LockCause};
+ghost use Rattle.tv_device.specs.Watch.{noted};
+ghost use Rattle.tv_device.specs.WatchList.{watch_state_of};
 ghost use Rattle.tv_files.specs.Folders.{OpenFolderCause, after_fault, after_refusal};
 
 use crate::folder::Folder;
@@ -19,7 +19,7 @@ use tv_base::{
     DeleteError, IoError, IoFault, IoKind, LockError, META_FILEPATH, OpenDirectoryError,
     OpenReadError, OpenWriteError,
 };
-use tv_directory::{DirectoryLock, Lock, WatchCall, Watchers, index_writer_lock};
+use tv_device::{DirectoryLock, Lock, WatchCall, Watchers, index_writer_lock};
 use tv_formats::{FileName, Memory};
 
 /// A lock that this directory holds: its lock file, locked while it is open.

@@ -24,7 +24,7 @@ pub struct MmapWriter {
 
 impl Model for MmapWriter {
     ghost use Rattle.std.specs.Prelude.{◌≤◌, length};
-    ghost use Rattle.tv_directory.specs.View.{WriterState};
+    ghost use Rattle.tv_device.specs.View.{WriterState};
 
     ghost Value = { WriterState };
 

@@ -5,8 +5,8 @@ use Rattle.tv_base.specs.Errors.{of_io}
 use Rattle.tv_base.specs.declared.error.TantivyError.{TantivyError}
 use Rattle.tv_base.specs.declared.io.IoError.{IoError}
 use Rattle.tv_base.specs.declared.io.IoError.TheVariants as io
-use Rattle.tv_directory.specs.Watch.{noted}
-use Rattle.tv_directory.specs.declared.directory.Directory.{Ghosts}
+use Rattle.tv_device.specs.Watch.{noted}
+use Rattle.tv_device.specs.declared.directory.Directory.{Ghosts}
 use Rattle.tv_managed.specs.Managed.{KeepsOtherFiles}
 use Rattle.tv_managed.specs.Names.{ManagedNames}
 use Rattle.tv_managed.specs.Wrapping.{ListRefusal, NotWrapped, Wraps}
@@ -17,7 +17,7 @@ use Rattle.tv_index.specs.Indexes.{CreatesIndex, NotCreated}
 use Rattle.tv_index.specs.NewForms.{form_with, new_text}
 use Rattle.tv_index.specs.Saving.{FrameNotesUnless, LeavesText, SavesMeta}
 use Rattle.tv_index.specs.SavingLaws.{notes_later}
-use Rattle.tv_index.specs.declared.index_settings.IndexSettings.{IndexSettings}
+use Rattle.tv_metas.specs.declared.index_settings.IndexSettings.{IndexSettings}
 use Rattle.tv_index.proofs.Listings.{listing_after}
 use Rattle.tv_index.proofs.Openings.{no_bytes, reads_unless, unless_later, unrefused_io}
 use Rattle.tv_index.proofs.SavedSafely.{of_memory}

@@ -1,10 +1,8 @@
 -- The damaged files among some, one file further.
-use Rattle.std.proofs.Common.{◌≡◌, ◌⊎◌, inl, inr, ℕ, suc, zero, ◌<◌, ◌&&◌, ◌||◌, Bool, true, false, true≢false, cond, not, List, [], ◌∷◌, ◌++◌, length, take, get_or, Some, None, Result, Ok, Err, refl, sym, ap, subst, ◌∙◌, arith, map, string_bytes, String, Global}
-use Rattle.std.specs.Prelude.{IsErrAnd, OnOk}
+use Rattle.std.proofs.Common.{◌≡◌, ◌⊎◌, inl, inr, ℕ, suc, zero, ◌<◌, ◌&&◌, ◌||◌, Bool, true, false, true≢false, not, List, [], ◌∷◌, ◌++◌, length, take, get_or, Some, None, Result, Ok, Err, refl, sym, ap, subst, ◌∙◌, arith, map, string_bytes, String, Global}
+use Rattle.std.specs.Prelude.{IsErrAnd}
 use Rattle.std.specs.BTreeSet.{insert_key}
-use Rattle.std.specs.List.{filter}
 use Rattle.std.proofs.lemmas.Bool.{or_parts, and_parts, not-true}
-use Rattle.std.proofs.lemmas.List.Elements.{filter-append}
 use Rattle.std.specs.String.{string_cmp}
 use Rattle.std.proofs.Math.Bool.{or_assoc}
 use Rattle.tv_base.specs.Causes.{IsDevice}
@@ -13,8 +11,8 @@ use Rattle.tv_base.specs.declared.error.TantivyError.{TantivyError}
 use Rattle.tv_base.specs.declared.error.TantivyError.TheVariants as errors
 use Rattle.tv_base.specs.declared.open_errors.OpenReadError.{OpenReadError}
 use Rattle.tv_base.specs.declared.open_errors.OpenReadError.TheVariants as opening
-use Rattle.tv_directory.specs.View.{OnlyReads}
-use Rattle.tv_directory.specs.declared.directory.Directory.{Ghosts}
+use Rattle.tv_device.specs.View.{OnlyReads}
+use Rattle.tv_device.specs.declared.directory.Directory.{Ghosts}
 use Rattle.tv_managed.specs.Reading.{FooterFaults, OpenBodyCause, ReadsRefused, ReadsSuch, SomeRefused}
 use Rattle.tv_managed.specs.Names.{ManagedNames}
 use Rattle.tv_formats.specs.Files.{Reads, Rose, Same}
@@ -25,9 +23,9 @@ use Rattle.tv_formats.proofs.Required.{by_one}
 use Rattle.tv_formats.proofs.TextSets.{texts_inserted}
 use Rattle.tv_index.specs.Checksums.{AreDamaged, TellsFile, UnreadCause, UnreadFaults, UnreadFile, UnreadMeta, ValidateCause, ValidateFaults, looked_at}
 use Rattle.tv_index.specs.Indexes.{MeansSuch}
-use Rattle.tv_index.specs.Metas.{commit_of, settings_of}
+use Rattle.tv_metas.specs.Metas.{commit_of, settings_of}
 use Rattle.tv_index.specs.Standing.{LoadsMeta}
-use Rattle.tv_index.specs.declared.index_meta.UntrackedIndexMeta.{UntrackedIndexMeta}
+use Rattle.tv_metas.specs.declared.index_meta.UntrackedIndexMeta.{UntrackedIndexMeta}
 
 -- ---- names
 
@@ -201,16 +199,3 @@ validate_fails g directory new schema (Err e) error h cause = record { quiet = t
   unloaded : (why : TantivyError) → UnreadMeta g directory.0 new schema why → ValidateCause g directory new schema why
   unloaded (errors.OpenReadError why) k = inl k
   unloaded other k = k
-
--- ---- the names that are looked at
-
-pub shared_last : (others names : List (List ℕ)) (name : List ℕ) → filter (has others) (names ++ name ∷ []) ≡ filter (has others) names ++ filter (has others) (name ∷ [])
-shared_last others names name = filter-append (has others) names (name ∷ [])
-
-pub is_shared : (others : List (List ℕ)) (name text : List ℕ) (b : Bool) → b ≡ has others text → text ≡ name → cond b (name ∷ []) [] ≡ filter (has others) (name ∷ [])
-is_shared others name text b e t = ap (λ (c : Bool). cond c (name ∷ []) []) (e ∙ ap (has others) t)
-
--- at Ok one fact from another
-pub ok_as : {A E : Type 0} (result : Result A E) (P Q : Type 0) → (P → Q) → OnOk result P → OnOk result Q
-ok_as (Ok a) P Q f h = f h
-ok_as (Err e) P Q f h = tt

@@ -3,9 +3,9 @@ use Rattle.std.proofs.Common.{◌≡◌, ◌⊎◌, inl, inr, ℕ, List, Option,
 use Rattle.std.specs.Prelude.{MatchOption}
 use Rattle.std.specs.Option.{IsSomeAnd}
 use Rattle.tv_base.specs.declared.error.TantivyError.{TantivyError}
-use Rattle.tv_directory.specs.View.{OnlyReads}
-use Rattle.tv_directory.specs.Watch.{noted}
-use Rattle.tv_directory.specs.declared.directory.Directory.{Ghosts}
+use Rattle.tv_device.specs.View.{OnlyReads}
+use Rattle.tv_device.specs.Watch.{noted}
+use Rattle.tv_device.specs.declared.directory.Directory.{Ghosts}
 use Rattle.tv_formats.specs.Commits.{IndexForm}
 use Rattle.tv_formats.specs.Names.{meta_name}
 use Rattle.tv_index.specs.Building.{Builder, LacksSchema}
@@ -13,7 +13,7 @@ use Rattle.tv_index.specs.Folders.{IsUnmade, Makes, UnmadeCause}
 use Rattle.tv_index.specs.Indexes.{CreatesIndex, IndexState, NotCreated}
 use Rattle.tv_index.specs.NewForms.{form_with, new_text}
 use Rattle.tv_index.specs.SavingLaws.{notes_later}
-use Rattle.tv_index.specs.declared.index_settings.IndexSettings.{IndexSettings}
+use Rattle.tv_metas.specs.declared.index_settings.IndexSettings.{IndexSettings}
 use Rattle.tv_index.proofs.Listings.{listing_before}
 use Rattle.tv_index.proofs.Openings.{refusal_later, unless_later}
 

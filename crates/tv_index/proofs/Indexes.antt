@@ -3,8 +3,8 @@ use Rattle.std.proofs.Common.{◌≡◌, ℕ, ◌≤◌, List, [], ◌∷◌, ma
 use Rattle.std.specs.Prelude.{All}
 use Rattle.std.specs.List.{AllByRecursion}
 use Rattle.std.proofs.lemmas.List.Elements.{All-from_recursion}
-use Rattle.tv_directory.specs.View.{View}
-use Rattle.tv_directory.specs.declared.directory.Directory.{Ghosts}
+use Rattle.tv_device.specs.View.{View}
+use Rattle.tv_device.specs.declared.directory.Directory.{Ghosts}
 use Rattle.tv_managed.specs.Frames.{KeepsNames}
 use Rattle.tv_managed.specs.Wrapping.{Wraps}
 use Rattle.tv_managed.specs.Names.{ManagedNames}
@@ -13,13 +13,13 @@ use Rattle.tv_formats.specs.Meaning.{Means}
 use Rattle.tv_formats.specs.Names.{meta_name}
 use Rattle.tv_formats.specs.Segments.{num_deleted}
 use Rattle.tv_index.specs.Indexes.{KeepsIndex, MeansSuch}
-use Rattle.tv_index.specs.Metas.{commit_of, settings_of}
-use Rattle.tv_index.specs.Segments.{entry_of}
+use Rattle.tv_metas.specs.Metas.{commit_of, settings_of}
+use Rattle.tv_metas.specs.Segments.{entry_of}
 use Rattle.tv_index.specs.Standing.{LoadsMeta}
-use Rattle.tv_index.specs.Tracked.{KeptMetas, Share}
-use Rattle.tv_index.specs.declared.index_meta.UntrackedIndexMeta.{UntrackedIndexMeta}
-use Rattle.tv_index.specs.declared.index_settings.IndexSettings.{IndexSettings}
-use Rattle.tv_index.specs.declared.segment_meta.InnerSegmentMeta.{InnerSegmentMeta}
+use Rattle.tv_metas.specs.Tracked.{KeptMetas, Share}
+use Rattle.tv_metas.specs.declared.index_meta.UntrackedIndexMeta.{UntrackedIndexMeta}
+use Rattle.tv_metas.specs.declared.index_settings.IndexSettings.{IndexSettings}
+use Rattle.tv_metas.specs.declared.segment_meta.InnerSegmentMeta.{InnerSegmentMeta}
 
 -- ---- segments of a commit
 

@@ -1,19 +1,19 @@
 -- That an index can be opened, or can't, put together from a wrap and a load.
 use Rattle.std.proofs.Common.{◌≡◌, ℕ, List, Option, Some, None, refl, subst, ◌∙◌}
 use Rattle.tv_base.specs.declared.error.TantivyError.{TantivyError}
-use Rattle.tv_directory.specs.View.{OnlyReads}
-use Rattle.tv_directory.specs.ViewLaws.{reads_then}
-use Rattle.tv_directory.specs.declared.directory.Directory.{Ghosts}
+use Rattle.tv_device.specs.View.{OnlyReads}
+use Rattle.tv_device.specs.ViewLaws.{reads_then}
+use Rattle.tv_device.specs.declared.directory.Directory.{Ghosts}
 use Rattle.tv_managed.specs.Names.{ManagedNames}
 use Rattle.tv_managed.specs.Wrapping.{NotWrapped, Wraps}
 use Rattle.tv_formats.specs.Commits.{Commit, Settings, default_settings, first_commit, new_form}
 use Rattle.tv_formats.specs.Files.{Rose}
 use Rattle.tv_formats.specs.Sound.{FindsCommit, managed_with}
 use Rattle.tv_formats.specs.Names.{meta_name}
-use Rattle.tv_index.specs.Metas.{commit_of, settings_of}
+use Rattle.tv_metas.specs.Metas.{commit_of, settings_of}
 use Rattle.tv_index.specs.Openable.{FindsOpenable, IsOpenable, NotOpenable}
 use Rattle.tv_index.specs.Opening.{LoadCause, Loads}
-use Rattle.tv_index.specs.declared.index_meta.UntrackedIndexMeta.{UntrackedIndexMeta}
+use Rattle.tv_metas.specs.declared.index_meta.UntrackedIndexMeta.{UntrackedIndexMeta}
 use Rattle.tv_index.proofs.Openings.{loaded_cause, unlisted_cause}
 
 -- a commit that was loaded, or the first one of a new index

@@ -12,8 +12,8 @@ use Rattle.tv_formats.specs.Listed.{ImagesListTheirFiles}
 use Rattle.tv_formats.proofs.DiskLaws.{goes_on_run, weaker, within_step}
 use Rattle.tv_formats.proofs.ListedImages.{images_list}
 use Rattle.tv_formats.proofs.Results.{any_err, no_ok, on_ok}
-use Rattle.tv_directory.specs.Images.{KeepsDisk, Settles}
-use Rattle.tv_directory.specs.declared.directory.Directory.{Ghosts}
+use Rattle.tv_device.specs.Images.{KeepsDisk, Settles}
+use Rattle.tv_device.specs.declared.directory.Directory.{Ghosts}
 use Rattle.tv_managed.specs.Crashes.{LeavesSafely, WrapsDisk}
 use Rattle.tv_managed.specs.Names.{ManagedNames}
 use Rattle.tv_managed.specs.declared.managed_directory.Refused.{Refused}

@@ -8,11 +8,11 @@ use Rattle.tv_base.specs.declared.error.TantivyError.{TantivyError}
 use Rattle.tv_base.specs.declared.error.TantivyError.TheVariants as errors
 use Rattle.tv_base.specs.declared.io.IoError.{IoError}
 use Rattle.tv_base.specs.declared.io.IoError.TheVariants as io
-use Rattle.tv_directory.specs.Calls.{Notes}
-use Rattle.tv_directory.specs.View.{View, Told, OnlyReads}
-use Rattle.tv_directory.specs.ViewLaws.{frame_then, reads_then}
-use Rattle.tv_directory.specs.Watch.{WatchState, MayNote}
-use Rattle.tv_directory.specs.declared.directory.Directory.{Ghosts}
+use Rattle.tv_device.specs.Calls.{Notes}
+use Rattle.tv_device.specs.View.{View, Told, OnlyReads}
+use Rattle.tv_device.specs.ViewLaws.{frame_then, reads_then}
+use Rattle.tv_device.specs.Watch.{WatchState, MayNote}
+use Rattle.tv_device.specs.declared.directory.Directory.{Ghosts}
 use Rattle.tv_managed.specs.Frames.{KeptButNotes}
 use Rattle.tv_managed.specs.Managed.{KeepsOtherFiles}
 use Rattle.tv_managed.specs.Wrapping.{ListRefusal, NotWrapped, Wraps}
@@ -24,12 +24,12 @@ use Rattle.tv_formats.specs.Sound.{FindsCommit}
 use Rattle.tv_formats.specs.Meaning.{Means, MeansNothing, MeansOther}
 use Rattle.tv_formats.specs.Names.{meta_name}
 use Rattle.tv_formats.proofs.SpelledCommits.{means_commit}
-use Rattle.tv_index.specs.Metas.{commit_of, settings_of}
+use Rattle.tv_metas.specs.Metas.{commit_of, settings_of}
 use Rattle.tv_index.specs.NewForms.{FindsOrMakes, IsFirst, LeavesUnmade, NotLoaded, NotOpenedForm, OpensForm, new_text}
 use Rattle.tv_index.specs.Opening.{FrameNotesRefused, HasCommit, HasList, IsRefusedBytes, LoadCause, Loads, NotOpened, OfBytes, OpenCause, OpensIndex, TellsMeta}
 use Rattle.tv_index.specs.Saving.{FrameNotesUnless, IsUnrefused, LeavesText}
 use Rattle.tv_index.specs.SavingLaws.{notes_later}
-use Rattle.tv_index.specs.declared.index_meta.UntrackedIndexMeta.{UntrackedIndexMeta}
+use Rattle.tv_metas.specs.declared.index_meta.UntrackedIndexMeta.{UntrackedIndexMeta}
 use Rattle.tv_index.proofs.Listings.{listing_after, listing_before}
 use Rattle.tv_index.proofs.Options.{no_some}
 

@@ -3,7 +3,7 @@ use Rattle.std.proofs.Common.{◌≡◌, ◌≢◌, inl, inr, ℕ, List, [], ◌
 use Rattle.std.specs.BTreeSet.{insert_key}
 use Rattle.tv_base.specs.declared.error.TantivyError.{TantivyError}
 use Rattle.tv_base.specs.declared.error.TantivyError.TheVariants as errors
-use Rattle.tv_directory.specs.declared.directory.Directory.{Ghosts}
+use Rattle.tv_device.specs.declared.directory.Directory.{Ghosts}
 use Rattle.tv_managed.specs.Wrapping.{ListRefusal}
 use Rattle.tv_formats.specs.Commits.{IndexForm}
 use Rattle.tv_formats.specs.Files.{Rose}
@@ -11,7 +11,7 @@ use Rattle.tv_formats.specs.Listing.{IsListFile}
 use Rattle.tv_formats.specs.Names.{byte_cmp, meta_name}
 use Rattle.tv_formats.proofs.ListTexts.{listing_of_none, listing_one}
 use Rattle.tv_index.specs.Indexes.{CreatesIndex, IndexState, NotCreated}
-use Rattle.tv_index.specs.declared.index_settings.IndexSettings.{IndexSettings}
+use Rattle.tv_metas.specs.declared.index_settings.IndexSettings.{IndexSettings}
 
 never : (m n : ℕ) → m ≡ 0 → n ≡ 0 → Rose m n → ⊥
 never m n a b (inl lt) = omega (arith, a, b, lt)

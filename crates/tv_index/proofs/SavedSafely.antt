@@ -13,8 +13,8 @@ use Rattle.tv_formats.specs.Listed.{ListsEachFile}
 use Rattle.tv_formats.specs.Names.{meta_name}
 use Rattle.tv_formats.proofs.DiskLaws.{HoldsOfFewer, at_end, fewer_listed, fewer_within, goes_on_run, started, weaker, within_step}
 use Rattle.tv_formats.proofs.Results.{any_err, no_ok}
-use Rattle.tv_directory.specs.Images.{Settles}
-use Rattle.tv_directory.specs.declared.directory.Directory.{Ghosts}
+use Rattle.tv_device.specs.Images.{Settles}
+use Rattle.tv_device.specs.declared.directory.Directory.{Ghosts}
 use Rattle.tv_managed.specs.Crashes.{AreListed, Gains, GivesSafely, GivesStates, IsNewList, IsTracked, KeepsTrack, LeavesSafely}
 use Rattle.tv_managed.specs.Names.{ManagedNames}
 use Rattle.tv_managed.specs.TrackLaws.{track_then}

@@ -1,7 +1,8 @@
 -- A commit that is saved, by what the saving of its text says.
-use Rattle.std.proofs.Common.{◌≡◌, ◌⊎◌, inr, ℕ, ◌<◌, ◌^◌, List, map, Option, Some, Result, Ok, Err, sym, ap, subst}
+use Rattle.std.proofs.Common.{◌≡◌, ◌⊎◌, inr, ℕ, ◌<◌, ◌^◌, List, map, Option, Some, None, Result, Ok, Err, sym, ap, subst, String, Global}
 use Rattle.std.proofs.lemmas.List.Elements.{All-from_recursion, recursion_from_All}
 use Rattle.std.proofs.lemmas.List.Sorted.{All-permutation}
+use Rattle.std.proofs.lemmas.Str.{IsUtf8-string_bytes}
 use Rattle.std.specs.List.{AllByRecursion}
 use Rattle.std.specs.Prelude.{IfSome, IsErrAnd, IsUtf8, OnErr}
 use Rattle.tv_base.specs.Causes.{IoCause}
@@ -9,17 +10,17 @@ use Rattle.tv_base.specs.Errors.{of_io}
 use Rattle.tv_base.specs.declared.error.TantivyError.{TantivyError}
 use Rattle.tv_base.specs.declared.io.IoError.{IoError}
 use Rattle.tv_base.specs.declared.io.IoError.TheVariants as io
-use Rattle.tv_directory.specs.declared.directory.Directory.{Ghosts}
+use Rattle.tv_device.specs.declared.directory.Directory.{Ghosts}
 use Rattle.tv_managed.specs.Names.{ManagedNames}
 use Rattle.tv_formats.specs.Commits.{Commit, IndexForm, IsCommit, IsSegment, Settings}
 use Rattle.tv_formats.specs.Meaning.{Means}
 use Rattle.tv_formats.specs.Names.{meta_name}
 use Rattle.tv_formats.proofs.ReadPrinted.{printed_means}
 use Rattle.tv_index.specs.Saving.{LeavesText, SaveCause, SavesCommit, SavesMeta, saved_text}
-use Rattle.tv_index.specs.Schemas.{HasSchemaTree}
-use Rattle.tv_index.specs.TrackedMetas.{IsInOrder, tracked_commit}
-use Rattle.tv_index.specs.declared.tracked_meta.IndexMeta.{IndexMeta}
-use Rattle.tv_index.proofs.Parsed.{payload_utf8}
+use Rattle.tv_metas.specs.Metas.{text_of}
+use Rattle.tv_metas.specs.Schemas.{HasSchemaTree}
+use Rattle.tv_metas.specs.TrackedMetas.{IsInOrder, tracked_commit}
+use Rattle.tv_metas.specs.declared.tracked_meta.IndexMeta.{IndexMeta}
 
 -- what is saved means the commit
 pub saved_means : (settings : Settings) (schema : List ℕ) (commit : Commit) → HasSchemaTree schema → settings.blocksize < 2 ^ 64 → IsCommit commit
@@ -32,8 +33,11 @@ ordered_is_commit meta commit all small order = record {
   ordered = order.sorted;
   segments = recursion_from_All IsSegment commit.segments (All-permutation IsSegment (map (λ s. s.1) meta.segments.items) commit.segments order.same (All-from_recursion IsSegment (map (λ s. s.1) meta.segments.items) all));
   opstamp = subst (λ (n : ℕ). n < 2 ^ 64) (sym order.opstamp) small;
-  payload = subst (λ (text : Option (List ℕ)). IfSome text IsUtf8) (sym order.payload) (payload_utf8 meta.payload);
-}
+  payload = subst (λ (text : Option (List ℕ)). IfSome text IsUtf8) (sym order.payload) (utf8 meta.payload);
+} where
+  utf8 : (payload : Option (String Global)) → IfSome (text_of payload) IsUtf8
+  utf8 None = tt
+  utf8 (Some text) = IsUtf8-string_bytes text
 
 -- the cause of an error that is handed on
 pub cause_of_io : {more same refused quiet : Type 0} (error : IoError) → (more → refused) → (same → quiet) → IoCause more same error → SaveCause refused quiet (of_io error)

@@ -6,15 +6,15 @@ use Rattle.tv_base.specs.declared.error.TantivyError.{TantivyError}
 use Rattle.tv_base.specs.declared.error.TantivyError.TheVariants as errors
 use Rattle.tv_base.specs.declared.open_errors.OpenReadError.{OpenReadError}
 use Rattle.tv_base.specs.declared.open_errors.OpenReadError.TheVariants as opening
-use Rattle.tv_directory.specs.declared.directory.Directory.{Ghosts}
+use Rattle.tv_device.specs.declared.directory.Directory.{Ghosts}
 use Rattle.tv_formats.specs.Files.{Rose}
 use Rattle.tv_formats.specs.Meaning.{Means, MeansNothing, MeansOther}
 use Rattle.tv_formats.specs.Names.{meta_name}
-use Rattle.tv_index.specs.Metas.{commit_of, settings_of}
-use Rattle.tv_index.specs.Parsing.{IsForExpected, ParseCause, SpellsUnlessExpected}
+use Rattle.tv_metas.specs.Metas.{commit_of, settings_of}
+use Rattle.tv_metas.specs.Parsing.{IsForExpected, ParseCause, SpellsUnlessExpected}
 use Rattle.tv_index.specs.Opening.{HasCommit, LoadCause, LoadFaults, Loads, NoneIfAbsent, OfBytes}
 use Rattle.tv_index.specs.Standing.{LoadsMeta, MetaCause, MetaFaults, OfRead, UnreadAs}
-use Rattle.tv_index.specs.declared.index_meta.UntrackedIndexMeta.{UntrackedIndexMeta}
+use Rattle.tv_metas.specs.declared.index_meta.UntrackedIndexMeta.{UntrackedIndexMeta}
 use Rattle.tv_index.proofs.Openings.{means_has}
 
 -- the bytes were read, and mean no such commit

@@ -2,8 +2,8 @@
 use Rattle.std.specs.Prelude.{◌≡◌, ℕ, List, codes, Option, None, string_bytes, Result, IfErr, MatchOption}
 use Rattle.tv_base.specs.declared.error.TantivyError.{TantivyError}
 use Rattle.tv_base.specs.declared.error.TantivyError.TheVariants as errors
-use Rattle.tv_directory.specs.View.{OnlyReads}
-use Rattle.tv_directory.specs.declared.directory.Directory.{Ghosts}
+use Rattle.tv_device.specs.View.{OnlyReads}
+use Rattle.tv_device.specs.declared.directory.Directory.{Ghosts}
 use Rattle.tv_managed.specs.Reading.{ReadsSuch}
 use Rattle.tv_managed.specs.declared.managed_directory.Refused.{Refused}
 use Rattle.tv_formats.specs.Commits.{Commit, Settings}
@@ -14,7 +14,7 @@ use Rattle.tv_index.specs.Crashes.{MakesSafely, OnlyLooks}
 use Rattle.tv_index.specs.Indexes.{IndexState, StandingCause}
 use Rattle.tv_index.specs.NewForms.{form_with, new_text}
 use Rattle.tv_index.specs.Opening.{HasList}
-use Rattle.tv_index.specs.declared.index_settings.IndexSettings.{IndexSettings}
+use Rattle.tv_metas.specs.declared.index_settings.IndexSettings.{IndexSettings}
 
 -- the settings of a new index, and the text of the schema that was passed, if one was
 pub record Builder : Type 0 where

@@ -3,8 +3,8 @@ use Rattle.std.proofs.Common.{◌∙◌, ⊎_elim, inl, inr, ℕ, List, Result, 
 use Rattle.tv_formats.specs.Disk.{Disk, IsSettled, possible_now, Throughout, Within}
 use Rattle.tv_formats.specs.Listed.{ImagesListTheirFiles}
 use Rattle.tv_formats.proofs.DiskLaws.{HoldsOfFewer, at_end, fewer_within, goes_on_run, started, weaker, within_step}
-use Rattle.tv_directory.specs.Images.{KeepsDisk, SameStates, Settles}
-use Rattle.tv_directory.specs.declared.directory.Directory.{Ghosts}
+use Rattle.tv_device.specs.Images.{KeepsDisk, SameStates, Settles}
+use Rattle.tv_device.specs.declared.directory.Directory.{Ghosts}
 use Rattle.tv_managed.specs.Names.{ManagedNames}
 use Rattle.tv_managed.specs.TrackLaws.{covered_within, listed_within, within_then}
 use Rattle.tv_index.specs.Crashes.{IsOldOrMade, IsOldOrRelisted, MayMake, OnlyLooks, TracksFrom}

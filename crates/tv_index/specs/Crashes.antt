@@ -6,8 +6,8 @@ use Rattle.tv_formats.specs.Disk.{DiskState, Sealed, Possible, Disk, possible_no
 use Rattle.tv_formats.specs.Listed.{ImagesListTheirFiles}
 use Rattle.tv_formats.specs.Listing.{IsListFile}
 use Rattle.tv_formats.specs.Names.{meta_name}
-use Rattle.tv_directory.specs.Images.{SameStates}
-use Rattle.tv_directory.specs.declared.directory.Directory.{Ghosts}
+use Rattle.tv_device.specs.Images.{SameStates}
+use Rattle.tv_device.specs.declared.directory.Directory.{Ghosts}
 use Rattle.tv_managed.specs.Crashes.{AreListed, Gains, IsGiven, IsNewList, IsTracked, OrItsList}
 use Rattle.tv_managed.specs.Names.{ManagedNames}
 use Rattle.tv_managed.specs.declared.managed_directory.Refused.{Refused}

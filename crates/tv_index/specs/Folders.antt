@@ -6,8 +6,8 @@ use Rattle.tv_base.specs.Errors.{of_open_directory}
 use Rattle.tv_base.specs.declared.error.TantivyError.{TantivyError}
 use Rattle.tv_base.specs.declared.error.TantivyError.TheVariants as errors
 use Rattle.tv_base.specs.declared.open_errors.OpenDirectoryError.{OpenDirectoryError}
-use Rattle.tv_directory.specs.View.{OnlyReads}
-use Rattle.tv_directory.specs.declared.directory.Directory.{Ghosts}
+use Rattle.tv_device.specs.View.{OnlyReads}
+use Rattle.tv_device.specs.declared.directory.Directory.{Ghosts}
 use Rattle.tv_files.specs.Folders.{OpenFolderCause}
 use Rattle.tv_formats.specs.Files.{Rose}
 use Rattle.tv_formats.specs.Names.{meta_name}

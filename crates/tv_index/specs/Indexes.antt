@@ -5,11 +5,11 @@ use Rattle.hex.specs.Hex.{encode_lower}
 use Rattle.tv_base.specs.Causes.{IsDevice}
 use Rattle.tv_base.specs.declared.error.TantivyError.{TantivyError}
 use Rattle.tv_base.specs.declared.error.TantivyError.TheVariants as errors
-use Rattle.tv_directory.specs.Ram.{ram_reads}
-use Rattle.tv_directory.specs.View.{View, OnlyReads}
-use Rattle.tv_directory.specs.Watch.{noted}
-use Rattle.tv_directory.specs.declared.directory.Directory.{Ghosts}
-use Rattle.tv_directory.specs.declared.ram_directory.RamDirectory.{RamDirectory}
+use Rattle.tv_device.specs.Ram.{ram_reads}
+use Rattle.tv_device.specs.View.{View, OnlyReads}
+use Rattle.tv_device.specs.Watch.{noted}
+use Rattle.tv_device.specs.declared.directory.Directory.{Ghosts}
+use Rattle.tv_device.specs.declared.ram_directory.RamDirectory.{RamDirectory}
 use Rattle.tv_managed.specs.Frames.{KeepsNames}
 use Rattle.tv_managed.specs.Managed.{KeepsOtherFiles}
 use Rattle.tv_managed.specs.Names.{ManagedNames}
@@ -26,11 +26,11 @@ use Rattle.tv_index.specs.NewForms.{OpensForm, form_with, new_text}
 use Rattle.tv_index.specs.Opening.{HasList, HasNoList, IsRefusedBytes}
 use Rattle.tv_index.specs.Saving.{FrameNotes, FrameNotesUnless, IsUnrefused}
 use Rattle.tv_index.specs.Standing.{LoadsMeta, MetaCause}
-use Rattle.tv_index.specs.Tracked.{KeptMetas, Share, TrackAll, has_id}
-use Rattle.tv_index.specs.TrackedMetas.{tracked_commit, tracked_settings}
-use Rattle.tv_index.specs.declared.tracked_meta.IndexMeta.{IndexMeta}
-use Rattle.tv_index.specs.declared.index_meta.UntrackedIndexMeta.{UntrackedIndexMeta}
-use Rattle.tv_index.specs.declared.index_settings.IndexSettings.{IndexSettings}
+use Rattle.tv_metas.specs.Tracked.{KeptMetas, Share, TrackAll, has_id}
+use Rattle.tv_metas.specs.TrackedMetas.{tracked_commit, tracked_settings}
+use Rattle.tv_metas.specs.declared.tracked_meta.IndexMeta.{IndexMeta}
+use Rattle.tv_metas.specs.declared.index_meta.UntrackedIndexMeta.{UntrackedIndexMeta}
+use Rattle.tv_metas.specs.declared.index_settings.IndexSettings.{IndexSettings}
 
 -- an index: its directory with the managed names and the unfinished collections, its settings, the text of
 -- its schema, and the segments that its inventory keeps

@@ -1,7 +1,7 @@
 -- How an index is opened, or made with some settings and a schema where there is none.
 use Rattle.std.specs.Prelude.{◌≡◌, ◌⊎◌, ◌++◌, ◌∷◌, [], ℕ, List, Option, Some, None, IsSome}
 use Rattle.tv_base.specs.declared.error.TantivyError.{TantivyError}
-use Rattle.tv_directory.specs.declared.directory.Directory.{Ghosts}
+use Rattle.tv_device.specs.declared.directory.Directory.{Ghosts}
 use Rattle.tv_managed.specs.Managed.{KeepsOtherFiles}
 use Rattle.tv_managed.specs.Names.{ManagedNames}
 use Rattle.tv_formats.specs.Collections.{no_collections}
@@ -11,11 +11,11 @@ use Rattle.tv_formats.specs.Sound.{managed_with}
 use Rattle.tv_formats.specs.Listing.{Listing}
 use Rattle.tv_formats.specs.Meaning.{Means}
 use Rattle.tv_formats.specs.Names.{meta_name}
-use Rattle.tv_index.specs.Metas.{commit_of, settings_of}
+use Rattle.tv_metas.specs.Metas.{commit_of, settings_of}
 use Rattle.tv_index.specs.Opening.{FrameNotesFirst, FrameNotesRefused, HasCommit, IsRefusedBytes, LoadCause, NotesMade, OpenCause, form_of}
-use Rattle.tv_index.specs.Settings.{settings_view}
-use Rattle.tv_index.specs.declared.index_meta.UntrackedIndexMeta.{UntrackedIndexMeta}
-use Rattle.tv_index.specs.declared.index_settings.IndexSettings.{IndexSettings}
+use Rattle.tv_metas.specs.Settings.{settings_view}
+use Rattle.tv_metas.specs.declared.index_meta.UntrackedIndexMeta.{UntrackedIndexMeta}
+use Rattle.tv_metas.specs.declared.index_settings.IndexSettings.{IndexSettings}
 
 -- how an index is made with these settings and this schema
 abbrev pub form_with : IndexSettings → (schema : List ℕ) → IndexForm

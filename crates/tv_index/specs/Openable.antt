@@ -1,8 +1,8 @@
 -- Whether an index can be opened in a directory, or made, as it is seen without doing either.
 use Rattle.std.specs.Prelude.{◌≡◌, ℕ, List}
 use Rattle.tv_base.specs.declared.error.TantivyError.{TantivyError}
-use Rattle.tv_directory.specs.View.{OnlyReads}
-use Rattle.tv_directory.specs.declared.directory.Directory.{Ghosts}
+use Rattle.tv_device.specs.View.{OnlyReads}
+use Rattle.tv_device.specs.declared.directory.Directory.{Ghosts}
 use Rattle.tv_index.specs.Opening.{Finds, OpenCause}
 use Rattle.tv_formats.specs.Commits.{Commit, IndexForm}
 use Rattle.tv_formats.specs.Files.{Reads, Rose}

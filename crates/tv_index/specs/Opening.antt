@@ -4,9 +4,9 @@ use Rattle.tv_base.specs.Causes.{IsDevice}
 use Rattle.tv_base.specs.declared.error.DataCorruption.{DataCorruption}
 use Rattle.tv_base.specs.declared.error.TantivyError.{TantivyError}
 use Rattle.tv_base.specs.declared.error.TantivyError.TheVariants as errors
-use Rattle.tv_directory.specs.View.{View, Told}
-use Rattle.tv_directory.specs.Watch.{noted}
-use Rattle.tv_directory.specs.declared.directory.Directory.{Ghosts}
+use Rattle.tv_device.specs.View.{View, Told}
+use Rattle.tv_device.specs.Watch.{noted}
+use Rattle.tv_device.specs.declared.directory.Directory.{Ghosts}
 use Rattle.tv_managed.specs.Managed.{KeepsOtherFiles}
 use Rattle.tv_managed.specs.Names.{ManagedNames}
 use Rattle.tv_formats.specs.Collections.{no_collections}
@@ -16,9 +16,9 @@ use Rattle.tv_formats.specs.Sound.{FindsCommit, managed_with}
 use Rattle.tv_formats.specs.Listing.{IsListFile, Listing}
 use Rattle.tv_formats.specs.Meaning.{Means, MeansOther, MeansNothing}
 use Rattle.tv_formats.specs.Names.{meta_name}
-use Rattle.tv_index.specs.Metas.{commit_of, settings_of}
+use Rattle.tv_metas.specs.Metas.{commit_of, settings_of}
 use Rattle.tv_index.specs.Saving.{FrameNotesUnless, IsUnrefused}
-use Rattle.tv_index.specs.declared.index_meta.UntrackedIndexMeta.{UntrackedIndexMeta}
+use Rattle.tv_metas.specs.declared.index_meta.UntrackedIndexMeta.{UntrackedIndexMeta}
 
 -- what an index keeps of how it is made
 abbrev pub form_of : UntrackedIndexMeta → IndexForm

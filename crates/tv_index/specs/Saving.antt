@@ -5,9 +5,9 @@ use Rattle.tv_base.specs.Causes.{IoCause, IsDevice}
 use Rattle.tv_base.specs.declared.error.TantivyError.{TantivyError}
 use Rattle.tv_base.specs.declared.error.TantivyError.TheVariants as errors
 use Rattle.tv_base.specs.declared.io.IoError.{IoError}
-use Rattle.tv_directory.specs.View.{View, Told, Frame}
-use Rattle.tv_directory.specs.Watch.{MayNote, noted}
-use Rattle.tv_directory.specs.declared.directory.Directory.{Ghosts}
+use Rattle.tv_device.specs.View.{View, Told, Frame}
+use Rattle.tv_device.specs.Watch.{MayNote, noted}
+use Rattle.tv_device.specs.declared.directory.Directory.{Ghosts}
 use Rattle.tv_managed.specs.Names.{ManagedNames}
 use Rattle.tv_formats.specs.Commits.{Commit, IndexForm, Settings, printed}
 use Rattle.tv_formats.specs.Files.{Rose}

@@ -1,8 +1,8 @@
 -- What calls keep, the last of which may have saved `meta.json`.
 use Rattle.std.proofs.Common.{subst}
-use Rattle.tv_directory.specs.View.{View, Told, OnlyReads}
-use Rattle.tv_directory.specs.ViewLaws.{frame_then}
-use Rattle.tv_directory.specs.Watch.{WatchState, MayNote}
+use Rattle.tv_device.specs.View.{View, Told, OnlyReads}
+use Rattle.tv_device.specs.ViewLaws.{frame_then}
+use Rattle.tv_device.specs.Watch.{WatchState, MayNote}
 use Rattle.tv_formats.specs.Names.{meta_name}
 use Rattle.tv_index.specs.Saving.{FrameNotes}
 

@@ -5,15 +5,15 @@ use Rattle.tv_base.specs.declared.error.TantivyError.{TantivyError}
 use Rattle.tv_base.specs.declared.error.TantivyError.TheVariants as errors
 use Rattle.tv_base.specs.declared.open_errors.OpenReadError.{OpenReadError}
 use Rattle.tv_base.specs.declared.open_errors.OpenReadError.TheVariants as opening
-use Rattle.tv_directory.specs.declared.directory.Directory.{Ghosts}
+use Rattle.tv_device.specs.declared.directory.Directory.{Ghosts}
 use Rattle.tv_managed.specs.Reading.{ReadsSuch}
 use Rattle.tv_formats.specs.Files.{Rose}
 use Rattle.tv_formats.specs.Meaning.{Means, MeansNothing}
 use Rattle.tv_formats.specs.Names.{meta_name}
-use Rattle.tv_index.specs.Metas.{commit_of, settings_of}
+use Rattle.tv_metas.specs.Metas.{commit_of, settings_of}
 use Rattle.tv_index.specs.Opening.{HasCommit}
-use Rattle.tv_index.specs.Parsing.{IsForExpected, MeansOtherThan, SpellsUnlessExpected}
-use Rattle.tv_index.specs.declared.index_meta.UntrackedIndexMeta.{UntrackedIndexMeta}
+use Rattle.tv_metas.specs.Parsing.{IsForExpected, MeansOtherThan, SpellsUnlessExpected}
+use Rattle.tv_metas.specs.declared.index_meta.UntrackedIndexMeta.{UntrackedIndexMeta}
 
 -- Which error of the library stands for one of a read of `meta.json`: of a fault the device's answer alone.
 abbrev pub UnreadAs : OpenReadError → TantivyError → Type 0

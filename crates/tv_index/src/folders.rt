@@ -1,18 +1,18 @@
 //! Indexes in folders of plain files.
 ghost use Rattle.std.specs.Prelude.{IfOk, IfErr, OnOk, Some};
 ghost use Rattle.tv_index.specs.Folders.{HasIndex, HasNoIndex, IsMadeOf, IsOpenIn, Makes, NotMade, NotMadeIn, NotOpenIn};
-ghost use Rattle.tv_index.specs.Settings.{default_index_settings};
+ghost use Rattle.tv_metas.specs.Settings.{default_index_settings};
 
 use crate::index::Index;
 use crate::index_builder::IndexBuilder;
 use crate::refusals::error_of;
-use crate::schema::Schema;
 use std::alloc::Global;
 use std::fs::File;
 use std::rt::Files;
 use tv_base::{OpenReadError, TantivyError};
-use tv_directory::{Directory, WatchCall};
+use tv_device::{Directory, WatchCall};
 use tv_files::MmapDirectory;
+use tv_metas::Schema;
 
 impl<R: Files<File = File> + Drop, C: WatchCall> Index<MmapDirectory<R, C>> {
     /// Opens the index that stands in a folder.

@@ -3,9 +3,9 @@ ghost use Rattle.std.specs.Prelude.{◌≡◌, [], IfOk, IfErr, MatchResult, OnE
 ghost use Rattle.std.specs.Borrow.{Lends, sem};
 ghost use Rattle.std.specs.List.{list_any};
 ghost use Rattle.tv_base.specs.Entries.{is_full, one_more};
-ghost use Rattle.tv_directory.specs.Calls.{AskFaults};
-ghost use Rattle.tv_directory.specs.Images.{KeepsDisk};
-ghost use Rattle.tv_directory.specs.View.{OnlyReads};
+ghost use Rattle.tv_device.specs.Calls.{AskFaults};
+ghost use Rattle.tv_device.specs.Images.{KeepsDisk};
+ghost use Rattle.tv_device.specs.View.{OnlyReads};
 ghost use Rattle.tv_formats.specs.Commits.{new_form};
 ghost use Rattle.tv_formats.specs.Names.{meta_name};
 ghost use Rattle.tv_formats.specs.Segments.{fresh_segment};
@@ -14,32 +14,29 @@ ghost use Rattle.tv_index.specs.Indexes.{CreatesIndex, IsNewInRam, KeepsForm, Ke
 ghost use Rattle.tv_index.specs.Indexes.{NewSegmentCause, is_id_used};
 ghost use Rattle.tv_index.specs.Indexes.{NotCreated, NotStanding, OpensIndexOf, OpensStanding};
 ghost use Rattle.tv_index.specs.NewForms.{NotOpenedForm, form_with, new_text};
-ghost use Rattle.tv_index.specs.Settings.{default_index_settings};
+ghost use Rattle.tv_metas.specs.Settings.{default_index_settings};
 ghost use Rattle.tv_index.specs.Standing.{LoadsMeta, MetaFaults};
-ghost use Rattle.tv_index.specs.Tracked.{ShareAllCause, Tracks, share_of};
+ghost use Rattle.tv_metas.specs.Tracked.{ShareAllCause, Tracks, share_of};
 ghost use Rattle.tv_index.specs.contracts.index.Index.{the_row as index_row};
-ghost use Rattle.tv_index.specs.contracts.index_settings.IndexSettings.{the_row as settings_row};
-ghost use Rattle.tv_index.specs.contracts.tracked.SegmentMetaInventory.{the_row as inventory_row};
+ghost use Rattle.tv_metas.specs.contracts.index_settings.IndexSettings.{the_row as settings_row};
+ghost use Rattle.tv_metas.specs.contracts.tracked.SegmentMetaInventory.{the_row as inventory_row};
 ghost use Rattle.tv_managed.specs.contracts.managed_directory.ManagedDirectory.{the_row as managed_row};
 
 use crate::index_builder::IndexBuilder;
-use crate::index_meta::UntrackedIndexMeta;
-use crate::index_settings::IndexSettings;
-use crate::naming::is_named;
 use crate::opening::{create, load_meta, open_or_create_with, settled};
 use crate::refusals::error_of;
-use crate::schema::Schema;
 use crate::segment::Segment;
-use crate::segments::ids_of;
-use crate::tracked::{SegmentMeta, SegmentMetaInventory};
-use crate::tracked_meta::IndexMeta;
 use crate::tracking::track_segments;
 use std::alloc::Global;
 use std::marker::Model;
 use tv_base::{META_FILEPATH, OpenReadError, TantivyError};
-use tv_directory::{Directory, RamDirectory, WatchCall};
+use tv_device::{Directory, RamDirectory, WatchCall};
 use tv_formats::{Memory, SegmentId};
 use tv_managed::{ManagedDirectory, Refused};
+use tv_metas::naming::is_named;
+use tv_metas::{
+    IndexMeta, IndexSettings, Schema, SegmentMeta, SegmentMetaInventory, UntrackedIndexMeta, ids_of,
+};
 
 /// An index: its directory, how it is made, and the segments of which a share is out. To a contract
 /// it is the record of these.

@@ -5,16 +5,15 @@ ghost use Rattle.tv_index.specs.Building.{BuildsSafely, IsMissing, IsUnpassed, L
 ghost use Rattle.tv_index.specs.Crashes.{LacksMeta, OnlyLooks};
 ghost use Rattle.tv_index.specs.Indexes.{CreatesIndex, IsNewInRam, NotCreated, NotStanding, OpensIndexOf};
 ghost use Rattle.tv_index.specs.NewForms.{NotOpenedForm, form_with};
-ghost use Rattle.tv_index.specs.Settings.{default_index_settings};
+ghost use Rattle.tv_metas.specs.Settings.{default_index_settings};
 
 use crate::index::Index;
-use crate::index_settings::IndexSettings;
-use crate::schema::Schema;
 use std::alloc::Global;
 use std::marker::Model;
 use tv_base::TantivyError;
-use tv_directory::{Directory, RamDirectory, WatchCall};
+use tv_device::{Directory, RamDirectory, WatchCall};
 use tv_managed::Refused;
+use tv_metas::{IndexSettings, Schema};
 
 /// The settings and the schema of an index that is to be made, or opened. To a contract it is the
 /// record of these, where the schema is none as long as none was passed.

@@ -3,31 +3,28 @@ ghost use Rattle.std.specs.Prelude.{◌≡◌, ◌<◌, ◌^◌, IfOk, IfErr, If
 ghost use Rattle.tv_formats.specs.Collections.{held};
 ghost use Rattle.tv_formats.specs.Commits.{first_commit};
 ghost use Rattle.tv_formats.specs.Names.{has, meta_name};
-ghost use Rattle.tv_directory.specs.Calls.{IoFaults};
-ghost use Rattle.tv_directory.specs.Images.{KeepsDisk};
-ghost use Rattle.tv_directory.specs.View.{OnlyReads};
+ghost use Rattle.tv_device.specs.Calls.{IoFaults};
+ghost use Rattle.tv_device.specs.Images.{KeepsDisk};
+ghost use Rattle.tv_device.specs.View.{OnlyReads};
 ghost use Rattle.tv_managed.specs.Crashes.{LeavesSafely};
 ghost use Rattle.tv_managed.specs.Frames.{KeepsNames};
 ghost use Rattle.tv_managed.specs.Managed.{KeepsOtherFiles};
 ghost use Rattle.tv_managed.specs.Wrapping.{NotWrapped, Wraps};
 ghost use Rattle.tv_index.specs.Crashes.{LacksMeta, LooksSafely, MakesSafely, MakesStates, OnlyLooks, SavesStates, giving};
-ghost use Rattle.tv_index.specs.Metas.{commit_of};
+ghost use Rattle.tv_metas.specs.Metas.{commit_of};
 ghost use Rattle.tv_index.specs.NewForms.{IsFirst, LoadsOrCreates, NotLoaded, NotOpenedForm, OpensForm, form_with, new_text};
 ghost use Rattle.tv_index.specs.Opening.{HasCommit, IsRefusedBytes, LoadFaults, Loads, NoneIfAbsent, NotOpened, OpensIndex, first_text};
 ghost use Rattle.tv_index.specs.Openable.{FindsOpenable, NotOpenable};
 ghost use Rattle.tv_index.specs.Saving.{FrameNotesUnless, LeavesText, SavesMeta};
 ghost use Rattle.tv_index.specs.Standing.{LoadsMeta, MetaFaults, UnreadAs};
 
-use crate::index_meta::UntrackedIndexMeta;
-use crate::index_settings::IndexSettings;
-use crate::meta_text::print_meta;
 use crate::saving::save_meta_text;
-use crate::schema::Schema;
 use std::alloc::Global;
 use tv_base::{IoError, META_FILEPATH, OpenReadError, TantivyError};
-use tv_directory::Directory;
+use tv_device::Directory;
 use tv_formats::Memory;
 use tv_managed::{ManagedDirectory, Refused};
+use tv_metas::{IndexSettings, Schema, UntrackedIndexMeta, print_meta};
 
 // What a read of `meta.json` that failed tells of it.
 fn unread(error: OpenReadError) -> TantivyError

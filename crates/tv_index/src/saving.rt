@@ -4,21 +4,20 @@ ghost use Rattle.std.specs.List.{AllByRecursion};
 ghost use Rattle.tv_formats.specs.Collections.{held};
 ghost use Rattle.tv_formats.specs.Commits.{Commit, IsCommit, IsSegment};
 ghost use Rattle.tv_formats.specs.Names.{has, meta_name};
-ghost use Rattle.tv_directory.specs.Calls.{IoFaults};
+ghost use Rattle.tv_device.specs.Calls.{IoFaults};
 ghost use Rattle.tv_managed.specs.Crashes.{LeavesSafely};
 ghost use Rattle.tv_managed.specs.Managed.{KeepsOtherFiles, ManagesFile};
 ghost use Rattle.tv_index.specs.Crashes.{SavesStates, giving};
 ghost use Rattle.tv_index.specs.Saving.{FrameNotesUnless, LeavesText, SaveFaults, SavesCommit, SavesMeta, saved_text};
-ghost use Rattle.tv_index.specs.Schemas.{HasSchemaTree};
-ghost use Rattle.tv_index.specs.TrackedMetas.{IsInOrder, tracked_commit, tracked_form, tracked_settings};
+ghost use Rattle.tv_metas.specs.Schemas.{HasSchemaTree};
+ghost use Rattle.tv_metas.specs.TrackedMetas.{IsInOrder, tracked_commit, tracked_form, tracked_settings};
 
-use crate::tracked::SegmentMeta;
-use crate::tracked_meta::IndexMeta;
 use std::alloc::Global;
 use tv_base::{IoError, META_FILEPATH, TantivyError};
-use tv_directory::Directory;
+use tv_device::Directory;
 use tv_formats::Memory;
 use tv_managed::ManagedDirectory;
+use tv_metas::{IndexMeta, SegmentMeta};
 
 /// Makes these bytes the text of `meta.json`, by one atomic write. The directory is synced before
 /// and afterwards: a crash leaves what it might have left before the call, or the text that stood

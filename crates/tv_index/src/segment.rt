@@ -2,13 +2,13 @@
 ghost use Rattle.std.specs.Prelude.{◌≡◌, ◌≤◌, None, Some, IfOk, OnErr, string_bytes};
 ghost use Rattle.tv_base.specs.Entries.{released};
 ghost use Rattle.tv_formats.specs.Segments.{name_of};
-ghost use Rattle.tv_index.specs.Tracked.{Retracks};
+ghost use Rattle.tv_metas.specs.Tracked.{Retracks};
 
-use crate::tracked::{SegmentMeta, SegmentMetaInventory};
 use std::alloc::Global;
 use std::marker::Model;
 use tv_base::Opstamp;
 use tv_formats::{Memory, SegmentComponent, SegmentId};
+use tv_metas::{SegmentMeta, SegmentMetaInventory};
 
 /// A segment, by a share of what is known of it. To a contract it is that share.
 #[derive(Drop)]
@@ -17,7 +17,7 @@ pub struct Segment {
 }
 
 impl Model for Segment {
-    ghost use Rattle.tv_index.specs.Tracked.{Share};
+    ghost use Rattle.tv_metas.specs.Tracked.{Share};
 
     ghost Value = { Share };
 

@@ -1,19 +1,19 @@
 //! The files of a segment, in the directory of its index.
 ghost use Rattle.std.specs.Prelude.{◌≡◌, ℕ, List, IfOk};
-ghost use Rattle.tv_directory.specs.Images.{KeepsDisk};
-ghost use Rattle.tv_directory.specs.View.{Kept, OnlyReads};
+ghost use Rattle.tv_device.specs.Images.{KeepsDisk};
+ghost use Rattle.tv_device.specs.View.{Kept, OnlyReads};
 ghost use Rattle.tv_managed.specs.Crashes.{CreatesSafely};
 ghost use Rattle.tv_managed.specs.Managed.{CreateFaults, Creates, ManagesFile};
 ghost use Rattle.tv_managed.specs.Reading.{BodyFaults, ReadsBody};
 ghost use Rattle.tv_managed.specs.Writers.{IsNewManaged};
 ghost use Rattle.tv_index.specs.Indexes.{KeepsBeside, KeepsIndex};
-ghost use Rattle.tv_index.specs.Tracked.{file_of};
+ghost use Rattle.tv_metas.specs.Tracked.{file_of};
 
 use crate::index::Index;
 use crate::segment::Segment;
 use std::alloc::Global;
 use tv_base::{FileSlice, OpenReadError, OpenWriteError};
-use tv_directory::Directory;
+use tv_device::Directory;
 use tv_formats::SegmentComponent;
 use tv_managed::ManagedWriter;
 

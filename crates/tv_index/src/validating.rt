@@ -1,25 +1,25 @@
 //! Which files of the last commit are damaged.
 ghost use Rattle.std.specs.Prelude.{◌≡◌, ◌||◌, ◌&&◌, ◌++◌, ℕ, List, Some, true, IfOk, OnOk, filter, map, not, string_bytes};
 ghost use Rattle.std.specs.List.{flat_map, list_all};
-ghost use Rattle.tv_directory.specs.Images.{KeepsDisk};
-ghost use Rattle.tv_directory.specs.View.{OnlyReads};
+ghost use Rattle.tv_device.specs.Images.{KeepsDisk};
+ghost use Rattle.tv_device.specs.View.{OnlyReads};
 ghost use Rattle.tv_managed.specs.Frames.{KeepsNames};
 ghost use Rattle.tv_formats.specs.Segments.{segment_names};
 ghost use Rattle.tv_formats.specs.Names.{has, is, is_plain, meta_name};
 ghost use Rattle.tv_index.specs.Checksums.{AreDamaged, UnreadFaults, ValidateFaults, looked_at};
 ghost use Rattle.tv_index.specs.Indexes.{KeepsIndex, MeansSuch};
-ghost use Rattle.tv_index.specs.Segments.{entry_of};
+ghost use Rattle.tv_metas.specs.Segments.{entry_of};
 
 use crate::index::Index;
-use crate::naming::{push_names, set_of, shared_names};
 use crate::opening::load_meta;
-use crate::segment_meta::InnerSegmentMeta;
 use std::alloc::Global;
 use std::collections::BTreeSet;
 use tv_base::TantivyError;
-use tv_directory::Directory;
+use tv_device::Directory;
 use tv_formats::{FileName, Memory};
 use tv_managed::ManagedDirectory;
+use tv_metas::InnerSegmentMeta;
+use tv_metas::naming::{push_names, set_of, shared_names};
 
 impl<D: Directory> Index<D> {
     /// The names of the damaged files of the last commit: of the managed ones, among all names that

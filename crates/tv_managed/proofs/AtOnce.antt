@@ -17,8 +17,8 @@ use Rattle.tv_formats.proofs.Entries.{is_itself, is_text}
 use Rattle.tv_formats.proofs.DiskLaws.{weaker, touches_then}
 use Rattle.tv_formats.proofs.Numbered.{put_found}
 use Rattle.tv_formats.proofs.Results.{on_err}
-use Rattle.tv_directory.specs.View.{Kept, OnlyReads}
-use Rattle.tv_directory.specs.declared.directory.Directory.{Ghosts}
+use Rattle.tv_device.specs.View.{Kept, OnlyReads}
+use Rattle.tv_device.specs.declared.directory.Directory.{Ghosts}
 use Rattle.tv_managed.specs.Collecting.{Begins, Ended, EndsCollection, FailsAtMost, Leaves, OnlyDeletes, TellsApart, Tried, Tries, ending, names_of, standing}
 use Rattle.tv_managed.specs.Crashes.{AnyOrList, CollectsNames, EndsSafely, Forgets, IsCovered, LeavesSafely, SettlesStates, ShortensStates, TriesSafely}
 use Rattle.tv_managed.specs.Managed.{Covers}

@@ -5,7 +5,7 @@ use Rattle.tv_formats.specs.Disk.{possible_now}
 use Rattle.tv_formats.specs.Names.{has}
 use Rattle.tv_formats.specs.Collections.{begun, collection_at, with_begun}
 use Rattle.tv_formats.proofs.DiskLaws.{at_end}
-use Rattle.tv_directory.specs.declared.directory.Directory.{Ghosts}
+use Rattle.tv_device.specs.declared.directory.Directory.{Ghosts}
 use Rattle.tv_managed.specs.Collecting.{Begins, beginning}
 use Rattle.tv_managed.specs.Crashes.{IsCovered, LeavesSafely, SettlesStates}
 use Rattle.tv_managed.specs.Names.{ManagedNames, done_names}

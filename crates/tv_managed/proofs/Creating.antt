@@ -8,10 +8,10 @@ use Rattle.tv_formats.specs.Names.{has, list_name}
 use Rattle.tv_base.specs.Causes.{OpenWriteCause}
 use Rattle.tv_base.specs.declared.open_errors.OpenWriteError.{OpenWriteError}
 use Rattle.tv_base.specs.declared.open_errors.OpenWriteError.TheVariants as write
-use Rattle.tv_directory.specs.Calls.{Makes, MayMake, OpenFaults}
-use Rattle.tv_directory.specs.Images.{KeepsDisk}
-use Rattle.tv_directory.specs.View.{OnlyReads}
-use Rattle.tv_directory.specs.declared.directory.Directory.{Ghosts}
+use Rattle.tv_device.specs.Calls.{Makes, MayMake, OpenFaults}
+use Rattle.tv_device.specs.Images.{KeepsDisk}
+use Rattle.tv_device.specs.View.{OnlyReads}
+use Rattle.tv_device.specs.declared.directory.Directory.{Ghosts}
 use Rattle.tv_managed.specs.Frames.{KeepsNames, MakeFaults, OnlyAsks}
 use Rattle.tv_managed.specs.Managed.{CreateCause, CreateFaults, Creates}
 use Rattle.tv_managed.specs.Names.{ManagedNames}

@@ -9,8 +9,8 @@ use Rattle.tv_formats.specs.Names.{has, is_plain, is_undotted, list_name}
 use Rattle.tv_formats.proofs.DiskLaws.{at_end, fewer_listed, goes_on, goes_on_run, started, weaker}
 use Rattle.tv_formats.proofs.Results.{on_ok}
 use Rattle.tv_base.specs.declared.io.IoError.{IoError}
-use Rattle.tv_directory.specs.Images.{Settles}
-use Rattle.tv_directory.specs.declared.directory.Directory.{Ghosts}
+use Rattle.tv_device.specs.Images.{Settles}
+use Rattle.tv_device.specs.declared.directory.Directory.{Ghosts}
 use Rattle.tv_managed.specs.Crashes.{CutsList, Forgets, IsCovered, IsTracked, LacksDone, SavesText, ShortensSafely, ShortensStates}
 use Rattle.tv_managed.specs.Names.{ManagedNames, done_names}
 use Rattle.tv_managed.proofs.Listing.{gone_saved}

@@ -8,11 +8,11 @@ use Rattle.tv_base.specs.declared.error.TantivyError.TheVariants as errors
 use Rattle.tv_base.specs.declared.open_errors.DeleteError.{DeleteError}
 use Rattle.tv_base.specs.declared.open_errors.DeleteError.TheVariants as delete
 use Rattle.tv_base.specs.declared.io.IoFault.{IoFault}
-use Rattle.tv_directory.specs.Calls.{DeleteFaults, Deletes, EndsWriters}
-use Rattle.tv_directory.specs.Images.{DeletesState, KeepsDisk, KeepsOtherStates}
-use Rattle.tv_directory.specs.View.{MayDelete}
-use Rattle.tv_directory.specs.ViewLaws.{kept_itself}
-use Rattle.tv_directory.specs.declared.directory.Directory.{Ghosts}
+use Rattle.tv_device.specs.Calls.{DeleteFaults, Deletes, EndsWriters}
+use Rattle.tv_device.specs.Images.{DeletesState, KeepsDisk, KeepsOtherStates}
+use Rattle.tv_device.specs.View.{MayDelete}
+use Rattle.tv_device.specs.ViewLaws.{kept_itself}
+use Rattle.tv_device.specs.declared.directory.Directory.{Ghosts}
 use Rattle.tv_managed.specs.Collecting.{ChangesNothing, OnlyDeletes, Steps, TriesName}
 use Rattle.tv_managed.specs.Crashes.{TriesState}
 use Rattle.tv_managed.specs.Names.{ManagedNames}

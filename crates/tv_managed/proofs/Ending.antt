@@ -8,7 +8,7 @@ use Rattle.tv_formats.specs.Listing.{Lists}
 use Rattle.tv_formats.specs.Collections.{Collection, collection_at, without, without_collection}
 use Rattle.tv_formats.proofs.CollectedNames.{has_without}
 use Rattle.tv_formats.proofs.PlainNames.{both}
-use Rattle.tv_directory.specs.declared.directory.Directory.{Ghosts}
+use Rattle.tv_device.specs.declared.directory.Directory.{Ghosts}
 use Rattle.tv_managed.specs.Collecting.{ending}
 use Rattle.tv_managed.specs.Crashes.{IsCovered, LacksDone, ShortensSafely, ShortensStates}
 use Rattle.tv_managed.specs.Managed.{Covers}

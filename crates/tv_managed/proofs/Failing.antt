@@ -5,9 +5,9 @@ use Rattle.tv_formats.specs.Files.{Rose}
 use Rattle.tv_base.specs.declared.error.TantivyError.{TantivyError}
 use Rattle.tv_base.specs.declared.error.TantivyError.TheVariants as errors
 use Rattle.tv_base.specs.declared.open_errors.LockError.TheVariants as lock
-use Rattle.tv_directory.specs.View.{Kept, MayDelete, OnlyReads, Told, View}
-use Rattle.tv_directory.specs.ViewLaws.{goes_then, reads_then}
-use Rattle.tv_directory.specs.declared.directory.Directory.{Ghosts}
+use Rattle.tv_device.specs.View.{Kept, MayDelete, OnlyReads, Told, View}
+use Rattle.tv_device.specs.ViewLaws.{goes_then, reads_then}
+use Rattle.tv_device.specs.declared.directory.Directory.{Ghosts}
 use Rattle.tv_managed.specs.Collecting.{BeginFaults, CollectCause, CollectFaults, EndFaults, IsLast, LockedFaults, TakesNoLock, is_unbegun}
 use Rattle.tv_managed.specs.Frames.{KeepsNames}
 use Rattle.tv_managed.specs.Names.{ManagedNames}

@@ -13,8 +13,8 @@ use Rattle.tv_base.specs.declared.open_errors.OpenWriteError.{OpenWriteError}
 use Rattle.tv_base.specs.declared.open_errors.OpenWriteError.TheVariants as write
 use Rattle.tv_base.specs.declared.open_errors.DeleteError.{DeleteError}
 use Rattle.tv_base.specs.declared.open_errors.DeleteError.TheVariants as delete
-use Rattle.tv_directory.specs.Images.{DeletesState, GivesState, KeepsDisk, KeepsOtherStates, Settles}
-use Rattle.tv_directory.specs.declared.directory.Directory.{Ghosts}
+use Rattle.tv_device.specs.Images.{DeletesState, GivesState, KeepsDisk, KeepsOtherStates, Settles}
+use Rattle.tv_device.specs.declared.directory.Directory.{Ghosts}
 use Rattle.tv_managed.specs.Crashes.{CreatesSafely, Gains, GivesSafely, IsCovered, IsFree, IsGiven, IsNewList, IsTracked, KeepsTrack, LeavesSafely, ListsName, OrItsList, SettlesStates}
 use Rattle.tv_managed.specs.Managed.{registering}
 use Rattle.tv_managed.specs.Names.{ManagedNames, done_names}

@@ -11,9 +11,9 @@ use Rattle.tv_formats.proofs.ListTexts.{lists_one}
 use Rattle.tv_formats.proofs.ListedImages.{settled_lists}
 use Rattle.tv_formats.proofs.DiskLaws.{at_end, weaker}
 use Rattle.tv_base.specs.declared.io.IoError.{IoError}
-use Rattle.tv_directory.specs.Images.{KeepsDisk, KeepsOtherStates, StandsNow}
-use Rattle.tv_directory.specs.View.{View}
-use Rattle.tv_directory.specs.declared.directory.Directory.{Ghosts}
+use Rattle.tv_device.specs.Images.{KeepsDisk, KeepsOtherStates, StandsNow}
+use Rattle.tv_device.specs.View.{View}
+use Rattle.tv_device.specs.declared.directory.Directory.{Ghosts}
 use Rattle.tv_managed.specs.Crashes.{AreListed, Gains, IsCovered, IsNewList, IsToList, IsTracked, KeepsTrack, ListsName, SavesManaged, SavesText}
 use Rattle.tv_managed.specs.Managed.{NeedsNoListing, registered, registering}
 use Rattle.tv_managed.specs.Names.{ManagedNames, done_names}

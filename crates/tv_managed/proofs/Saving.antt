@@ -8,13 +8,13 @@ use Rattle.tv_base.specs.Causes.{IoCause, IsDevice}
 use Rattle.tv_base.specs.declared.io.IoError.{IoError}
 use Rattle.tv_base.specs.declared.io.IoError.TheVariants as io
 use Rattle.tv_base.specs.declared.io.IoFault.{IoFault}
-use Rattle.tv_directory.specs.Calls.{DeviceFaults, Gives, IoFaults, Notes}
-use Rattle.tv_directory.specs.Images.{GivesState, Settles}
-use Rattle.tv_directory.specs.View.{Frame, OnlyReads}
-use Rattle.tv_directory.specs.ViewLaws.{kept_itself, kept_then}
-use Rattle.tv_directory.specs.Watch.{MayNote, WatchState}
-use Rattle.tv_directory.specs.declared.directory.Directory.{Ghosts}
-use Rattle.tv_directory.specs.TouchLaws.{others_given}
+use Rattle.tv_device.specs.Calls.{DeviceFaults, Gives, IoFaults, Notes}
+use Rattle.tv_device.specs.Images.{GivesState, Settles}
+use Rattle.tv_device.specs.View.{Frame, OnlyReads}
+use Rattle.tv_device.specs.ViewLaws.{kept_itself, kept_then}
+use Rattle.tv_device.specs.Watch.{MayNote, WatchState}
+use Rattle.tv_device.specs.declared.directory.Directory.{Ghosts}
+use Rattle.tv_device.specs.TouchLaws.{others_given}
 use Rattle.tv_managed.specs.Crashes.{SavesText}
 use Rattle.tv_managed.specs.Managed.{SavesNames}
 use Rattle.tv_managed.proofs.Touching.{adds_run, gained_one, gained_same, gained_then, gained_within}

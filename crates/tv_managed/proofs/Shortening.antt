@@ -10,8 +10,8 @@ use Rattle.tv_formats.specs.Listing.{IsListOf, list_text}
 use Rattle.tv_formats.proofs.CollectedNames.{has_without}
 use Rattle.tv_formats.proofs.PlainNames.{both}
 use Rattle.tv_base.specs.declared.io.IoError.{IoError}
-use Rattle.tv_directory.specs.View.{OnlyReads}
-use Rattle.tv_directory.specs.declared.directory.Directory.{Ghosts}
+use Rattle.tv_device.specs.View.{OnlyReads}
+use Rattle.tv_device.specs.declared.directory.Directory.{Ghosts}
 use Rattle.tv_managed.specs.Collecting.{Shortens}
 use Rattle.tv_managed.specs.Crashes.{SavesText}
 use Rattle.tv_managed.specs.Frames.{KeepsNames}

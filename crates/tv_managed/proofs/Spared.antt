@@ -11,9 +11,9 @@ use Rattle.tv_formats.specs.Names.{has}
 use Rattle.tv_formats.specs.Collections.{Collection, Collections, begun, collectable, collection_at, held, with_begun}
 use Rattle.tv_formats.proofs.CollectedNames.{has_append, has_without}
 use Rattle.tv_formats.proofs.Numbered.{put_found}
-use Rattle.tv_directory.specs.Images.{KeepsDisk}
-use Rattle.tv_directory.specs.View.{Kept, OnlyReads}
-use Rattle.tv_directory.specs.declared.directory.Directory.{Ghosts}
+use Rattle.tv_device.specs.Images.{KeepsDisk}
+use Rattle.tv_device.specs.View.{Kept, OnlyReads}
+use Rattle.tv_device.specs.declared.directory.Directory.{Ghosts}
 use Rattle.tv_managed.specs.Collecting.{Among, Begins, Ended, EndsCollection, KeepsFailed, Leaves, NextName, Spares, TookNoneOf, Tries, names_of, taken_by}
 use Rattle.tv_managed.specs.Crashes.{CollectsNames, IsSettledBut, LeavesWhatMight, StandsFor}
 use Rattle.tv_managed.specs.Frames.{KeepsNames}

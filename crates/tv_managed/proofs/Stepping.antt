@@ -10,7 +10,7 @@ use Rattle.tv_formats.specs.Collections.{Collection, Collections, collection_at,
 use Rattle.tv_formats.proofs.Entries.{is_text}
 use Rattle.tv_formats.proofs.CollectedNames.{has_append}
 use Rattle.tv_formats.proofs.Results.{on_err}
-use Rattle.tv_directory.specs.declared.directory.Directory.{Ghosts}
+use Rattle.tv_device.specs.declared.directory.Directory.{Ghosts}
 use Rattle.tv_managed.specs.Collecting.{TriesName, is_done}
 use Rattle.tv_managed.specs.Crashes.{KeepsTrack, LeavesSafely, TriesState, TriesStates}
 use Rattle.tv_managed.specs.Names.{ManagedNames, done_names}

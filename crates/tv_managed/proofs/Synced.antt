@@ -7,7 +7,7 @@ use Rattle.tv_formats.proofs.CollectedNames.{has_append}
 use Rattle.tv_formats.proofs.Entries.{is_itself}
 use Rattle.tv_formats.proofs.DiskLaws.{HoldsOfFewer, goes_on_run, at_end, weaker, touches_then}
 use Rattle.tv_managed.specs.Crashes.{AnyOrList, Gains, IsLost, IsSettledBut, LosesNames, SettlesStates, TriesStates}
-use Rattle.tv_directory.specs.Images.{KeepsDisk}
+use Rattle.tv_device.specs.Images.{KeepsDisk}
 use Rattle.tv_managed.proofs.Touching.{gained_more, gained_none, gained_same, gained_then}
 
 -- ---- names that are tried

@@ -6,9 +6,9 @@ use Rattle.tv_formats.proofs.DiskLaws.{HoldsOfFewer, at_end, goes_on, goes_on_ru
 use Rattle.tv_base.specs.declared.io.IoError.{IoError}
 use Rattle.tv_base.specs.declared.io.IoError.TheVariants as io
 use Rattle.tv_base.specs.declared.open_errors.OpenWriteError.TheVariants as write
-use Rattle.tv_directory.specs.Images.{KeepsDisk, KeepsOtherStates, WritesState}
-use Rattle.tv_directory.specs.declared.directory.Directory.{Ghosts}
-use Rattle.tv_directory.specs.TouchLaws.{others_given}
+use Rattle.tv_device.specs.Images.{KeepsDisk, KeepsOtherStates, WritesState}
+use Rattle.tv_device.specs.declared.directory.Directory.{Ghosts}
+use Rattle.tv_device.specs.TouchLaws.{others_given}
 use Rattle.tv_managed.specs.Crashes.{Gains, IsCovered, IsTracked, KeepsTrack}
 use Rattle.tv_managed.specs.Names.{ManagedNames}
 use Rattle.tv_managed.specs.TrackLaws.{covered_within, track_step}

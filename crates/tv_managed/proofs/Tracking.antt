@@ -7,7 +7,7 @@ use Rattle.tv_formats.specs.Listing.{IsListFile, IsListOf, Lists}
 use Rattle.tv_formats.specs.Names.{has, is_undotted, list_name}
 use Rattle.tv_formats.specs.Collections.{Collections}
 use Rattle.tv_formats.proofs.DiskLaws.{fewer_listed, started}
-use Rattle.tv_directory.specs.declared.directory.Directory.{Ghosts}
+use Rattle.tv_device.specs.declared.directory.Directory.{Ghosts}
 use Rattle.tv_managed.specs.Crashes.{AreListed, IsCovered, IsTracked, KeepsTrack}
 use Rattle.tv_managed.specs.Names.{ManagedNames, done_names}
 use Rattle.tv_managed.specs.TrackLaws.{AreGone, listed_within, still_listed, track_step}

@@ -9,8 +9,8 @@ use Rattle.tv_formats.specs.Names.{is, has, is_plain, list_name}
 use Rattle.tv_formats.specs.Files.{KeepsOthers}
 use Rattle.tv_formats.proofs.Entries.{is_text, isnt_one}
 use Rattle.tv_formats.proofs.CollectedNames.{has_append}
-use Rattle.tv_directory.specs.View.{Kept, MayDelete, OnlyReads}
-use Rattle.tv_directory.specs.declared.directory.Directory.{Ghosts}
+use Rattle.tv_device.specs.View.{Kept, MayDelete, OnlyReads}
+use Rattle.tv_device.specs.declared.directory.Directory.{Ghosts}
 use Rattle.tv_managed.specs.Collecting.{FailsAtMost, Tried, TriesName}
 use Rattle.tv_managed.specs.Frames.{KeepsNames}
 use Rattle.tv_managed.specs.Names.{ManagedNames}

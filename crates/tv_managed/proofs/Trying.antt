@@ -4,8 +4,8 @@ use Rattle.std.specs.Option.{IsSomeAnd}
 use Rattle.tv_formats.specs.declared.memory.Memory.{Memory}
 use Rattle.tv_formats.proofs.Numbered.{put_found}
 use Rattle.tv_formats.specs.Collections.{Collection, begun, collection_at, having_tried, with_collection}
-use Rattle.tv_directory.specs.View.{Kept}
-use Rattle.tv_directory.specs.declared.directory.Directory.{Ghosts}
+use Rattle.tv_device.specs.View.{Kept}
+use Rattle.tv_device.specs.declared.directory.Directory.{Ghosts}
 use Rattle.tv_managed.specs.Collecting.{ChangesNothing, HasLeft, NotesFirst, NotesNext, OnlyDeletes, TriesSome, standing}
 use Rattle.tv_managed.specs.Crashes.{LeavesSafely, StepsSafely, TriesSafely, TriesStates}
 use Rattle.tv_managed.specs.Names.{ManagedNames}

@@ -8,11 +8,11 @@ use Rattle.tv_base.specs.declared.io.IoError.{IoError}
 use Rattle.tv_base.specs.declared.io.IoError.TheVariants as io
 use Rattle.tv_checksum.specs.Crc32.{HasTaken}
 use Rattle.tv_checksum.specs.declared.crc32.Crc32.{Crc32}
-use Rattle.tv_directory.specs.Calls.{Appends, Gives, HandsBack, IoFaults, Notes, Touches}
-use Rattle.tv_directory.specs.View.{Frame, Kept, View, WriterState}
-use Rattle.tv_directory.specs.ViewLaws.{frame_then, kept_itself}
-use Rattle.tv_directory.specs.Watch.{MayNote, WatchState, noted}
-use Rattle.tv_directory.specs.declared.directory.Directory.{Ghosts}
+use Rattle.tv_device.specs.Calls.{Appends, Gives, HandsBack, IoFaults, Notes, Touches}
+use Rattle.tv_device.specs.View.{Frame, Kept, View, WriterState}
+use Rattle.tv_device.specs.ViewLaws.{frame_then, kept_itself}
+use Rattle.tv_device.specs.Watch.{MayNote, WatchState, noted}
+use Rattle.tv_device.specs.declared.directory.Directory.{Ghosts}
 use Rattle.tv_managed.specs.Frames.{KeepsNames, KeptButNotes}
 use Rattle.tv_managed.specs.Managed.{GivesFile, HasListed, SealsBody}
 use Rattle.tv_managed.specs.Names.{ManagedNames}

@@ -13,10 +13,10 @@ use Rattle.tv_base.specs.Causes.{IsDevice}
 use Rattle.tv_base.specs.declared.error.TantivyError.{TantivyError}
 use Rattle.tv_base.specs.declared.error.TantivyError.TheVariants as errors
 use Rattle.tv_base.specs.declared.io.IoError.{IoError}
-use Rattle.tv_directory.specs.Calls.{IoFaults}
-use Rattle.tv_directory.specs.Locks.{LockCause}
-use Rattle.tv_directory.specs.View.{View, WriterState, Kept, MayDelete, OnlyReads}
-use Rattle.tv_directory.specs.declared.directory.Directory.{Ghosts}
+use Rattle.tv_device.specs.Calls.{IoFaults}
+use Rattle.tv_device.specs.Locks.{LockCause}
+use Rattle.tv_device.specs.View.{View, WriterState, Kept, MayDelete, OnlyReads}
+use Rattle.tv_device.specs.declared.directory.Directory.{Ghosts}
 use Rattle.tv_managed.specs.Frames.{KeepsNames}
 use Rattle.tv_managed.specs.Managed.{SavesList}
 use Rattle.tv_managed.specs.Names.{ManagedNames}

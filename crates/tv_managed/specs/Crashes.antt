@@ -11,8 +11,8 @@ use Rattle.tv_base.specs.Causes.{IoCause}
 use Rattle.tv_base.specs.declared.io.IoError.{IoError}
 use Rattle.tv_base.specs.declared.open_errors.OpenWriteError.{OpenWriteError}
 use Rattle.tv_base.specs.declared.open_errors.OpenWriteError.TheVariants as write
-use Rattle.tv_directory.specs.Images.{KeepsDisk, KeepsOtherStates, SameStates}
-use Rattle.tv_directory.specs.declared.directory.Directory.{Ghosts}
+use Rattle.tv_device.specs.Images.{KeepsDisk, KeepsOtherStates, SameStates}
+use Rattle.tv_device.specs.declared.directory.Directory.{Ghosts}
 use Rattle.tv_managed.specs.Collecting.{Leaves, NextName, SavesNone, Tries, TriesSome, names_of}
 use Rattle.tv_managed.specs.Managed.{NeedsNoListing, SavesList, registered}
 use Rattle.tv_managed.specs.Names.{ManagedNames, done_names}

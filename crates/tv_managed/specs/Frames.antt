@@ -4,10 +4,10 @@ use Rattle.tv_formats.specs.Files.{Rose}
 use Rattle.tv_base.specs.Causes.{OpenWriteCause}
 use Rattle.tv_base.specs.declared.io.IoError.{IoError}
 use Rattle.tv_base.specs.declared.open_errors.OpenWriteError.{OpenWriteError}
-use Rattle.tv_directory.specs.Calls.{Notes}
-use Rattle.tv_directory.specs.Images.{KeepsDisk}
-use Rattle.tv_directory.specs.View.{View, Told, Frame, OnlyReads}
-use Rattle.tv_directory.specs.declared.directory.Directory.{Ghosts}
+use Rattle.tv_device.specs.Calls.{Notes}
+use Rattle.tv_device.specs.Images.{KeepsDisk}
+use Rattle.tv_device.specs.View.{View, Told, Frame, OnlyReads}
+use Rattle.tv_device.specs.declared.directory.Directory.{Ghosts}
 use Rattle.tv_managed.specs.Names.{ManagedNames}
 
 -- the managed names and the unfinished collections stay, and of the directory below what such a call keeps

@@ -9,3 +9,4 @@ pub mod Frames
 pub mod ListTrees
 pub mod Wrapping
 pub mod TrackLaws
+pub mod CreateLaws

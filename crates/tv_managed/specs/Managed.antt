@@ -10,9 +10,9 @@ use Rattle.tv_base.specs.Causes.{IoCause, IsDevice}
 use Rattle.tv_base.specs.declared.io.IoError.{IoError}
 use Rattle.tv_base.specs.declared.open_errors.OpenWriteError.{OpenWriteError}
 use Rattle.tv_base.specs.declared.open_errors.OpenWriteError.TheVariants as write
-use Rattle.tv_directory.specs.Calls.{IoFaults}
-use Rattle.tv_directory.specs.View.{Kept, OnlyReads}
-use Rattle.tv_directory.specs.declared.directory.Directory.{Ghosts}
+use Rattle.tv_device.specs.Calls.{IoFaults}
+use Rattle.tv_device.specs.View.{Kept, OnlyReads}
+use Rattle.tv_device.specs.declared.directory.Directory.{Ghosts}
 use Rattle.tv_managed.specs.Frames.{KeepsNames}
 use Rattle.tv_managed.specs.Names.{ManagedNames, done_names}
 use Rattle.tv_managed.specs.Reading.{ReadsBody}

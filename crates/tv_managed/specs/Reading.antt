@@ -11,7 +11,7 @@ use Rattle.tv_base.specs.declared.open_errors.OpenReadError.TheVariants as read
 use Rattle.tv_base.specs.Versions.{library_version}
 use Rattle.tv_base.specs.declared.versions.Incompatibility.{Incompatibility}
 use Rattle.tv_base.specs.declared.versions.Incompatibility.TheVariants.{IndexMismatch}
-use Rattle.tv_directory.specs.declared.directory.Directory.{Ghosts}
+use Rattle.tv_device.specs.declared.directory.Directory.{Ghosts}
 use Rattle.tv_framing.specs.declared.footer.Footer.{Footer}
 use Rattle.tv_framing.specs.Footers as framing
 use Rattle.tv_framing.specs.Footers.{Refuses}

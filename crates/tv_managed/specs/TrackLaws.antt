@@ -7,8 +7,8 @@ use Rattle.tv_formats.specs.Listed.{IsAlwaysListed, ListsEachFile}
 use Rattle.tv_formats.specs.Listing.{IsListFile}
 use Rattle.tv_formats.specs.Names.{has, is_undotted}
 use Rattle.tv_formats.proofs.DiskLaws.{at_end, fewer_listed, fewer_within, goes_on, goes_on_run, same_then, started, weaker}
-use Rattle.tv_directory.specs.Images.{KeepsDisk, SameStates}
-use Rattle.tv_directory.specs.declared.directory.Directory.{Ghosts}
+use Rattle.tv_device.specs.Images.{KeepsDisk, SameStates}
+use Rattle.tv_device.specs.declared.directory.Directory.{Ghosts}
 use Rattle.tv_managed.specs.Crashes.{AreListed, IsCovered, IsTracked, KeepsTrack, LeavesSafely}
 use Rattle.tv_managed.specs.Names.{ManagedNames, done_names}
 

@@ -3,9 +3,9 @@ use Rattle.std.specs.Prelude.{ℕ, ◌≡◌, List, Result, IfErr, OnOk}
 use Rattle.tv_base.specs.Causes.{IoCause}
 use Rattle.tv_base.specs.declared.io.IoError.{IoError}
 use Rattle.tv_checksum.specs.Crc32.{HasTaken}
-use Rattle.tv_directory.specs.Calls.{IsNewWriter, HandsBack}
-use Rattle.tv_directory.specs.View.{WriterState}
-use Rattle.tv_directory.specs.declared.directory.Directory.{Ghosts}
+use Rattle.tv_device.specs.Calls.{IsNewWriter, HandsBack}
+use Rattle.tv_device.specs.View.{WriterState}
+use Rattle.tv_device.specs.declared.directory.Directory.{Ghosts}
 use Rattle.tv_managed.specs.declared.writer.ManagedWriter.{ManagedWriter}
 
 -- the checksum is that of what was written

@@ -2,9 +2,9 @@
 ghost use Rattle.std.specs.Prelude.{◌≡◌, ◌≢◌, [], ◌++◌, ◌∷◌, ℕ, List, length, true, false, Option, Some, None, IsSome, option_map, IfOk, IfErr, OnErr};
 ghost use Rattle.tv_formats.specs.Names.{has, is_file_name, is_plain, list_name};
 ghost use Rattle.tv_formats.specs.Collections.{Collection as CollectionState, begun, collectable, collection_at, held, no_collections, taken, without};
-ghost use Rattle.tv_directory.specs.Images.{DeletesState};
-ghost use Rattle.tv_directory.specs.View.{Kept, MayDelete, OnlyReads};
-ghost use Rattle.tv_directory.specs.Calls.{DeleteFaults, Deletes, EndsWriters, IoFaults};
+ghost use Rattle.tv_device.specs.Images.{DeletesState};
+ghost use Rattle.tv_device.specs.View.{Kept, MayDelete, OnlyReads};
+ghost use Rattle.tv_device.specs.Calls.{DeleteFaults, Deletes, EndsWriters, IoFaults};
 ghost use Rattle.tv_managed.specs.Crashes.{AreListed, CollectsNames, EndsSafely, IsTracked, LeavesSafely, CutsList, SettlesStates, StepsSafely, TriesSafely, TriesState};
 ghost use Rattle.tv_managed.specs.Frames.{KeepsNames, OnlyAsks};
 ghost use Rattle.tv_managed.specs.Names.{AreManaged, ManagedNames};
@@ -16,7 +16,7 @@ use crate::managed_directory::ManagedDirectory;
 use std::alloc::Global;
 use std::collections::BTreeSet;
 use tv_base::{DeleteError, IoError, TantivyError};
-use tv_directory::{Directory, meta_lock};
+use tv_device::{Directory, meta_lock};
 use tv_formats::Memory;
 
 impl<D: Directory> ManagedDirectory<D> {

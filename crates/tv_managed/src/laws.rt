@@ -1,14 +1,14 @@
 //! Laws of managed directories: what one may rely on, whatever the directory is. Each makes the calls of which it
 //! speaks, and its contract is the law.
-ghost use Rattle.std.specs.Prelude.{◌≡◌, ◌≢◌, ◌≤◌, ◌<◌, ◌⊎◌, ◌&&◌, not, ℕ, List, Option, true, false, IsSome, IfOk, IfErr, OnErr};
+ghost use Rattle.std.specs.Prelude.{◌≡◌, ◌≢◌, ◌≤◌, ◌<◌, ◌⊎◌, ◌&&◌, not, ℕ, List, Option, true, false, IsSome, IfOk, IfErr, OnErr, OnOk};
 ghost use Rattle.tv_formats.specs.Names.{has, is_file_name, list_name};
 ghost use Rattle.tv_formats.specs.Collections.{collection_at, held};
 ghost use Rattle.tv_formats.specs.Disk.{IsThere, MayLeave};
 ghost use Rattle.tv_formats.specs.Files.{Reads};
 ghost use Rattle.tv_formats.specs.Listed.{ListsItsFiles};
-ghost use Rattle.tv_directory.specs.View.{OnlyReads};
+ghost use Rattle.tv_device.specs.View.{OnlyReads};
 ghost use Rattle.tv_managed.specs.Collecting.{HasLeft, KeepsFailed, Spares, TookNoneOf, is_done, names_of, texts_of};
-ghost use Rattle.tv_managed.specs.Crashes.{IsTracked, LeavesWhatMight, StandsFor};
+ghost use Rattle.tv_managed.specs.Crashes.{AreListed, IsTracked, LeavesWhatMight, StandsFor};
 ghost use Rattle.tv_managed.specs.Frames.{KeepsNames};
 ghost use Rattle.tv_managed.specs.Managed.{is_taken};
 ghost use Rattle.tv_managed.specs.Writers.{IsSummed};
@@ -18,7 +18,7 @@ use crate::managed_directory::ManagedDirectory;
 use crate::writer::ManagedWriter;
 use std::collections::BTreeSet;
 use tv_base::{OpenWriteError, OwnedBytes, TantivyError};
-use tv_directory::Directory;
+use tv_device::Directory;
 use tv_formats::Memory;
 
 /// Where track is kept, a crash at any moment of `open_write`, whatever that answers, leaves no undotted file but
@@ -38,15 +38,21 @@ pub fn open_write_forgets_no_file<D: Directory>(
 }
 
 /// Where `open_write` answers that the file is there, or that an unfinished collection has the name, nothing
-/// changed: each name reads what it read, and the managed names and the collections are as they were.
+/// changed: each name reads what it read, and the managed names and the collections are as they were. Nor does a
+/// crash leave anything, at any moment of the call, that it couldn't leave before.
 pub fn open_write_spares_a_taken_name<D: Directory>(
     directory: &mut ManagedDirectory<D>,
     name: &str,
 ) -> Result<ManagedWriter<D>, OpenWriteError>
     requires name { is_file_name name.now ≡ true }
     requires other { name.now ≢ list_name }
-    ensures { D.told.content → IfErr result (λ error. is_taken error ≡ true
+    ensures frame { D.told.content → IfErr result (λ error. is_taken error ≡ true
         → KeepsNames (OnlyReads D.told) D.view directory.old directory.new) }
+    ensures images { D.tells_images → IfErr result (λ error. is_taken error ≡ true
+        → (x : ℕ) (image : Reads)
+        → (D.disk directory.old.0).moment ≤ x → x ≤ (D.disk directory.new.0).moment
+        → MayLeave (D.disk directory.new.0) x image
+        → MayLeave (D.disk directory.old.0) (D.disk directory.old.0).moment image) }
 {
     directory.open_write(name)
 }
@@ -134,6 +140,22 @@ pub fn a_refused_delete_loses_no_file<D: Directory>(
         (LeavesWhatMight (D.disk directory.old.0) (D.disk directory.new.0)) }
 {
     directory.collect_delete(id)
+}
+
+/// Where track is kept, and each managed name is on the list, whatever a crash may leave of that, both are so still
+/// once a step of a collection was made and all collections are forgotten.
+pub fn forgotten_collections_lose_no_file<D: Directory>(
+    directory: &mut ManagedDirectory<D>,
+    id: u64,
+) -> Result<CollectStep, TantivyError>
+    requires { HasLeft directory.old.1.collections id }
+    ensures { D.tells_images → AreListed D.Directory directory.old
+        → IsTracked D.Directory directory.old → OnOk result
+        (AreListed D.Directory directory.new × IsTracked D.Directory directory.new) }
+{
+    let step = directory.collect_delete(id)?;
+    directory.forget_collections();
+    Ok(step)
 }
 
 /// A managed name that the end of a collection tells as failed stays managed. The next number stays, whatever the

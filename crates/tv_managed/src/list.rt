@@ -2,8 +2,8 @@
 ghost use Rattle.std.specs.Prelude.{◌≡◌, Some, IfOk, map, option_map, string_bytes};
 ghost use Rattle.tv_formats.specs.Names.{list_name};
 ghost use Rattle.tv_formats.specs.Listing.{Listing, list_text};
-ghost use Rattle.tv_directory.specs.Images.{KeepsDisk};
-ghost use Rattle.tv_directory.specs.View.{OnlyReads};
+ghost use Rattle.tv_device.specs.Images.{KeepsDisk};
+ghost use Rattle.tv_device.specs.View.{OnlyReads};
 ghost use Rattle.tv_managed.specs.Collecting.{names_of};
 ghost use Rattle.tv_managed.specs.Crashes.{SavesText};
 ghost use Rattle.tv_managed.specs.Managed.{SavesNames};
@@ -15,7 +15,7 @@ use json::Writer;
 use std::alloc::Global;
 use std::collections::BTreeSet;
 use tv_base::{DataCorruption, IoError, MANAGED_FILEPATH, OpenReadError, TantivyError};
-use tv_directory::Directory;
+use tv_device::Directory;
 use tv_formats::Memory;
 
 /// The text of the list of these names.

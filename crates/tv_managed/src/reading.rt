@@ -3,8 +3,8 @@ ghost use Rattle.std.specs.Prelude.{◌≡◌, ◌==◌, List, ℕ, true, IfOk, 
 ghost use Rattle.tv_formats.specs.Checksum.{crc32};
 ghost use Rattle.tv_formats.specs.Names.{is_file_name};
 ghost use Rattle.tv_framing.specs.Footers.{IsFramedAs, Refuses};
-ghost use Rattle.tv_directory.specs.Images.{KeepsDisk};
-ghost use Rattle.tv_directory.specs.View.{OnlyReads};
+ghost use Rattle.tv_device.specs.Images.{KeepsDisk};
+ghost use Rattle.tv_device.specs.View.{OnlyReads};
 ghost use Rattle.tv_managed.specs.Frames.{KeepsNames, OnlyAsks};
 ghost use Rattle.tv_managed.specs.Reading.{BodyFaults, FooterFaults, HasNoFooter, NamesFile, OpenBodyCause, ReadsBody, ReadsSuch, TellsChecksum};
 
@@ -12,7 +12,7 @@ use crate::managed_directory::ManagedDirectory;
 use std::alloc::Global;
 use tv_base::{FileSlice, IoError, OpenReadError, OwnedBytes};
 use tv_checksum::{Checksum, Crc32};
-use tv_directory::Directory;
+use tv_device::Directory;
 use tv_framing::Footer;
 
 impl<D: Directory> ManagedDirectory<D> {

@@ -1,15 +1,15 @@
 //! Locks of a managed directory, and those who watch it.
 ghost use Rattle.std.specs.Prelude.{◌≡◌, true, IfOk, OnErr};
 ghost use Rattle.tv_formats.specs.Names.{is_file_name};
-ghost use Rattle.tv_directory.specs.Images.{KeepsDisk};
-ghost use Rattle.tv_directory.specs.View.{OnlyLocks, OnlyWatches};
-ghost use Rattle.tv_directory.specs.Calls.{Acquires, Frees, LockFaults};
-ghost use Rattle.tv_directory.specs.Watch.{IsNewWatcher, delivered, unsubscribed};
+ghost use Rattle.tv_device.specs.Images.{KeepsDisk};
+ghost use Rattle.tv_device.specs.View.{OnlyLocks, OnlyWatches};
+ghost use Rattle.tv_device.specs.Calls.{Acquires, Frees, LockFaults};
+ghost use Rattle.tv_device.specs.Watch.{IsNewWatcher, delivered, unsubscribed};
 ghost use Rattle.tv_managed.specs.Frames.{KeepsNames};
 
 use crate::managed_directory::ManagedDirectory;
 use tv_base::LockError;
-use tv_directory::{Directory, DirectoryLock, Lock, WatchHandle};
+use tv_device::{Directory, DirectoryLock, Lock, WatchHandle};
 use tv_formats::Memory;
 
 impl<D: Directory> ManagedDirectory<D> {

@@ -1,14 +1,14 @@
 //! Lines that are told on to the directory's owner.
 ghost use Rattle.std.specs.Prelude.{◌≡◌, ◌<◌, true, length};
 ghost use Rattle.tv_formats.specs.Files.{has_no_feed};
-ghost use Rattle.tv_directory.specs.Images.{KeepsDisk};
-ghost use Rattle.tv_directory.specs.View.{OnlyTells};
-ghost use Rattle.tv_directory.specs.Calls.{DeviceFaults, MakesRoom, TellsLineTo};
+ghost use Rattle.tv_device.specs.Images.{KeepsDisk};
+ghost use Rattle.tv_device.specs.View.{OnlyTells};
+ghost use Rattle.tv_device.specs.Calls.{DeviceFaults, MakesRoom, TellsLineTo};
 ghost use Rattle.tv_managed.specs.Frames.{KeepsNames};
 
 use crate::managed_directory::ManagedDirectory;
 use tv_base::IoFault;
-use tv_directory::Outside;
+use tv_device::Outside;
 use tv_formats::Memory;
 
 impl<O: Outside> ManagedDirectory<O> {

@@ -1,7 +1,7 @@
 //! What writes a file that will be sealed.
 
 use tv_checksum::Crc32;
-use tv_directory::Directory;
+use tv_device::Directory;
 
 /// Writes a file, and keeps the checksum of what was written.
 #[derive(Drop)]

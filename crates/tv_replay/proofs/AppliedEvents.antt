@@ -45,7 +45,7 @@ use Rattle.tv_replay.specs.declared.next_event.ScriptError.TheVariants as failed
 use Rattle.tv_replay.specs.declared.lines.LineError.TheVariants as line
 use Rattle.tv_replay.specs.declared.replaying.Tally.{Tally}
 use Rattle.tv_store.specs.Kept.{KeptState, StoreState, FileHolds, Holds, AtMost}
-use Rattle.tv_directory.specs.declared.directory.Directory.{Ghosts}
+use Rattle.tv_device.specs.declared.directory.Directory.{Ghosts}
 use Rattle.tv_store.specs.Opening.{Opens}
 use Rattle.tv_store.specs.Telling.{AreBetween, TellsLine, TellsLines}
 use Rattle.tv_replay.specs.ScriptLines.{pending, TakesNextEvent, IsNoEvent, IsTooLong}

@@ -5,7 +5,7 @@ use Rattle.std.specs.BTreeMap.{is_at}
 use Rattle.std.proofs.lemmas.List.{drop_more}
 use Rattle.tv_formats.specs.Names.{byte_cmp, is, at}
 use Rattle.tv_formats.proofs.Entries.{at_itself, text_at, is_text, is_itself}
-use Rattle.tv_directory.specs.StoredFiles.{named}
+use Rattle.tv_device.specs.StoredFiles.{named}
 
 -- under a path stands what the first pair has, where that is of the path
 first : {X Y : Type 0} (pairs : List (String X × Vec ℕ Y)) (i : ℕ) (pair : String X × Vec ℕ Y) (path : List ℕ) → i < length pairs → pair ≡ get_or pairs i pair → at (named (drop i pairs)) path ≡ cond (is_at (byte_cmp path) (string_bytes pair.0)) (Some pair.1.items) (at (named (drop (i + 1) pairs)) path)

@@ -1,7 +1,7 @@
 -- Runs of the program, by their command.
 use Rattle.std.proofs.Common.{◌≡◌, ◌≢◌, ℕ, ◌≤◌, List, Option, Some, sym, ap, subst, ◌∙◌, arith}
 use Rattle.std.specs.Fmt.{decimal}
-use Rattle.tv_directory.specs.declared.directory.Directory.{Ghosts}
+use Rattle.tv_device.specs.declared.directory.Directory.{Ghosts}
 use Rattle.tv_replay.specs.Commands.{generate_words, most_commits, replay_words}
 use Rattle.tv_replay.specs.Fields.{number_at}
 use Rattle.tv_replay.specs.PlaceView.{PlaceTold}

@@ -12,7 +12,7 @@ use Rattle.tv_base.specs.declared.error.TantivyError.TheVariants as errors
 use Rattle.tv_machine.specs.declared.event.Event.{Event}
 use Rattle.tv_machine.specs.declared.event.Event.TheVariants as events
 use Rattle.tv_formats.specs.Footer.{IsGood, HasBody}
-use Rattle.tv_directory.specs.Locks.{Locks}
+use Rattle.tv_device.specs.Locks.{Locks}
 use Rattle.tv_machine.specs.State.{State, FileState, Reader, SealedFile, reader_at}
 use Rattle.tv_machine.specs.Machine.{Turn, after, events_of}
 use Rattle.tv_machine.specs.Readable.{read_by}
@@ -40,7 +40,7 @@ use Rattle.tv_store.specs.StoreCauses.{WriteFault, writer_lock_name}
 use Rattle.tv_store.specs.OpeningCauses.{CallFacts, IndexMissing, IndexRefused, IsFirstBad, OpeningCause}
 use Rattle.tv_store.specs.ReadCauses.{ReadFault}
 use Rattle.tv_managed.specs.Collecting.{meta_lock_name}
-use Rattle.tv_directory.specs.View.{Told}
+use Rattle.tv_device.specs.View.{Told}
 use Rattle.tv_store.specs.Applying.{MeetsBadAt}
 use Rattle.tv_replay.specs.Replays.{ReplayCall, ReplayCause, told_facts, RefusesOpening, StopsFor, StopsReplay, StopsRunning, StopsAtLine, LineRefusal}
 use Rattle.tv_replay.specs.Completeness.{IsScript, IsReady}

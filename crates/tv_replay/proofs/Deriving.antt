@@ -1,7 +1,7 @@
 -- The headline from the clauses of a replay, and of a run.
 use Rattle.std.proofs.Common.{◌≡◌, ℕ, List, Some, Option, ◌∙◌, sym, subst}
 use Rattle.std.proofs.lemmas.Option.{same_Some}
-use Rattle.tv_directory.specs.declared.directory.Directory.{Ghosts}
+use Rattle.tv_device.specs.declared.directory.Directory.{Ghosts}
 use Rattle.tv_formats.specs.Sound.{IsSoundStart}
 use Rattle.tv_formats.specs.Schemas.{IsSchema, stripped}
 use Rattle.tv_replay.specs.declared.replaying.Tally.{Tally}

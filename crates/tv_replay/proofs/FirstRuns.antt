@@ -11,8 +11,8 @@ use Rattle.tv_formats.proofs.ListTexts.{listing_of_none}
 use Rattle.tv_formats.specs.Names.{meta_name}
 use Rattle.tv_machine.specs.State.{SealedFile}
 use Rattle.tv_machine.specs.Machine.{after, all_refused, report}
-use Rattle.tv_directory.specs.Telling.{bytes_heard}
-use Rattle.tv_directory.specs.declared.directory.Directory.{Ghosts}
+use Rattle.tv_directory.specs.Pieces.{bytes_heard}
+use Rattle.tv_device.specs.declared.directory.Directory.{Ghosts}
 use Rattle.tv_replay.specs.declared.replaying.Tally.{Tally}
 use Rattle.tv_replay.specs.Generated.{generated}
 use Rattle.tv_replay.specs.Replays.{Replays}

@@ -1,6 +1,6 @@
 -- The locks that a run's events keep.
 use Rattle.std.proofs.Common.{◌≡◌, Bool, true, false, true≢false, sym}
-use Rattle.tv_directory.specs.Locks.{Locks, SameLocks}
+use Rattle.tv_device.specs.Locks.{Locks, SameLocks}
 use Rattle.tv_store.specs.Applying.{KeepsLocks}
 
 -- where no reload was left unfinished or ended, each stands as it stood

@@ -4,11 +4,11 @@ use Rattle.tv_formats.specs.Names.{is, meta_name}
 use Rattle.tv_machine.specs.declared.event.Event.{Event}
 use Rattle.tv_machine.specs.declared.event.Event.TheVariants as events
 use Rattle.tv_formats.proofs.Entries.{is_text, isnt_text}
-use Rattle.tv_directory.specs.Calls.{Frees}
-use Rattle.tv_directory.specs.Locks.{FreesLock, Locks, SameLocks, TakesLock}
-use Rattle.tv_directory.specs.View.{View, Told}
-use Rattle.tv_directory.specs.ViewLaws.{goes_on_itself, goes_then}
-use Rattle.tv_directory.specs.Watch.{WatchState, MayNote, noted}
+use Rattle.tv_device.specs.Calls.{Frees}
+use Rattle.tv_device.specs.Locks.{FreesLock, Locks, SameLocks, TakesLock}
+use Rattle.tv_device.specs.View.{View, Told}
+use Rattle.tv_device.specs.ViewLaws.{goes_on_itself, goes_then}
+use Rattle.tv_device.specs.Watch.{WatchState, MayNote, noted}
 use Rattle.tv_store.specs.Applying.{MayNoteAt}
 use Rattle.tv_store.specs.Stays.{MayNotify}
 use Rattle.tv_store.specs.StoreCauses.{writer_lock_name}

@@ -17,10 +17,10 @@ use Rattle.tv_machine.specs.Machine.{Turn, step, answers, report, after, events_
 use Rattle.tv_machine.specs.Readable.{AllReadGood}
 use Rattle.tv_machine.specs.SoundStates.{IsWhole}
 use Rattle.tv_machine.proofs.WholeStates.{after_whole}
-use Rattle.tv_directory.specs.Locks.{Locks, TakesLock}
-use Rattle.tv_directory.specs.View.{View, Told, GoesOn}
-use Rattle.tv_directory.specs.ViewLaws.{goes_on_itself}
-use Rattle.tv_directory.specs.declared.directory.Directory.{Ghosts}
+use Rattle.tv_device.specs.Locks.{Locks, TakesLock}
+use Rattle.tv_device.specs.View.{View, Told, GoesOn}
+use Rattle.tv_device.specs.ViewLaws.{goes_on_itself}
+use Rattle.tv_device.specs.declared.directory.Directory.{Ghosts}
 use Rattle.tv_managed.specs.Collecting.{meta_lock_name}
 use Rattle.tv_store.specs.Kept.{StoreState, Holds}
 use Rattle.tv_store.specs.Telling.{TellsLine, TellsNoLine}

@@ -12,8 +12,8 @@ use Rattle.tv_machine.specs.SoundStates.{IsWhole}
 use Rattle.tv_machine.specs.Machine.{Turn, answers, after, events_of, all_refused}
 use Rattle.tv_machine.specs.Readable.{AllReadGood}
 use Rattle.tv_machine.specs.Script.{lines_of, Fits, AreLines}
-use Rattle.tv_directory.specs.Locks.{LockCause}
-use Rattle.tv_directory.specs.declared.directory.Directory.{Ghosts}
+use Rattle.tv_device.specs.Locks.{LockCause}
+use Rattle.tv_device.specs.declared.directory.Directory.{Ghosts}
 use Rattle.tv_managed.specs.Collecting.{meta_lock_name}
 use Rattle.tv_store.specs.Applying.{HoldsNone}
 use Rattle.tv_store.specs.Kept.{StoreState, IsHeld}

@@ -1,8 +1,8 @@
 -- What makes a replay come to its end.
 use Rattle.std.specs.Prelude.{ℕ, ◌≡◌, ◌<◌, ◌^◌, List, length, Option, Some}
 use Rattle.tv_base.specs.Streams.{SourceView}
-use Rattle.tv_directory.specs.Locks.{Locks}
-use Rattle.tv_directory.specs.declared.directory.Directory.{Ghosts}
+use Rattle.tv_device.specs.Locks.{Locks}
+use Rattle.tv_device.specs.declared.directory.Directory.{Ghosts}
 use Rattle.tv_machine.specs.declared.event.Event.{Event}
 use Rattle.tv_formats.specs.Files.{Reads}
 use Rattle.tv_formats.specs.Schemas.{IsSchema}

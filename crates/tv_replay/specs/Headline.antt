@@ -1,7 +1,7 @@
 -- What a replay that answers Ok gives from a sound start: the lines of a run of the machine, and the files
 -- and the list of that run.
 use Rattle.std.specs.Prelude.{ℕ, ◌≡◌, List, [], length, Some}
-use Rattle.tv_directory.specs.declared.directory.Directory.{Ghosts}
+use Rattle.tv_device.specs.declared.directory.Directory.{Ghosts}
 use Rattle.tv_formats.specs.Files.{RoseBy}
 use Rattle.tv_machine.specs.Index.{FileReads, IsFileOf, OpenedIndex}
 use Rattle.tv_formats.specs.Sound.{IsSoundStart}

@@ -19,10 +19,10 @@ use Rattle.tv_machine.specs.Index.{DirectoryHolds, FoundIndex, OpenedIndex, foun
 use Rattle.tv_formats.specs.Sound.{HasFiles, IsSoundImage}
 use Rattle.tv_base.specs.Causes.{IsDevice}
 use Rattle.tv_base.specs.Streams.{SourceView}
-use Rattle.tv_directory.specs.Locks.{Locks, SameLocks}
-use Rattle.tv_directory.specs.View.{View, Told, GoesOn}
-use Rattle.tv_directory.specs.Watch.{MayNote}
-use Rattle.tv_directory.specs.declared.directory.Directory.{Ghosts}
+use Rattle.tv_device.specs.Locks.{Locks, SameLocks}
+use Rattle.tv_device.specs.View.{View, Told, GoesOn}
+use Rattle.tv_device.specs.Watch.{MayNote}
+use Rattle.tv_device.specs.declared.directory.Directory.{Ghosts}
 use Rattle.tv_managed.specs.Collecting.{meta_lock_name}
 use Rattle.tv_base.specs.declared.open_errors.LockError.TheVariants as lock
 use Rattle.tv_base.specs.declared.error.TantivyError.{TantivyError}

@@ -4,9 +4,9 @@ use Rattle.tv_base.specs.Streams.{SourceView}
 use Rattle.tv_base.specs.declared.error.TantivyError.{TantivyError}
 use Rattle.tv_base.specs.declared.error.TantivyError.TheVariants as errors
 use Rattle.tv_formats.specs.Files.{Rose}
-use Rattle.tv_directory.specs.Telling.{TellsPart}
-use Rattle.tv_directory.specs.View.{View, Told, OnlyTells}
-use Rattle.tv_directory.specs.declared.directory.Directory.{Ghosts}
+use Rattle.tv_device.specs.Telling.{TellsPart}
+use Rattle.tv_device.specs.View.{View, Told, OnlyTells}
+use Rattle.tv_device.specs.declared.directory.Directory.{Ghosts}
 use Rattle.tv_store.specs.Telling.{TellsLine}
 use Rattle.tv_replay.specs.declared.replaying.Tally.{Tally}
 use Rattle.tv_replay.specs.ErrorLines.{error_line}

@@ -2,14 +2,14 @@
 ghost use Rattle.std.specs.Prelude.{◌≡◌, ◌≤◌, ◌-◌, ◌++◌, [], ◌∷◌, ◌↔◌, List, ℕ, Some, None, IsSome, IsErr, option_map, length, string_bytes, IfOk, IfErr, OnOk};
 ghost use Rattle.tv_formats.specs.Names.{at};
 ghost use Rattle.tv_base.specs.Causes.{IsDevice};
-ghost use Rattle.tv_directory.specs.StoredFiles.{named};
+ghost use Rattle.tv_device.specs.StoredFiles.{named};
 ghost use Rattle.tv_replay.specs.BenchPlace.{is_there, kept_in, new_place, bench_refused, FolderCause, TextCause};
 
 use crate::place::Place;
 use std::alloc::Global;
 use std::marker::Model;
 use tv_base::{IoError, IoFault, IoKind, OpenDirectoryError, TextSource};
-use tv_directory::Outside;
+use tv_device::Outside;
 use tv_formats::Memory;
 
 /// A place in memory, which lends its one directory for any folder, or for one folder alone.
@@ -32,7 +32,7 @@ pub struct BenchPlace<O: Outside + Drop> {
 
 impl<O: Outside + Drop> Model for BenchPlace<O> {
     ghost use Rattle.std.specs.Prelude.{◌≡◌, ◌≤◌, ◌↔◌, List, ℕ, None, Some, true, IsSome, option_map, string_bytes, vec_len, vec_capacity};
-    ghost use Rattle.tv_directory.specs.StoredFiles.{named};
+    ghost use Rattle.tv_device.specs.StoredFiles.{named};
     ghost use Rattle.tv_replay.specs.BenchPlace.{PlaceState, is_there};
 
     ghost Value = { PlaceState O };

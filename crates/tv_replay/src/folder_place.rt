@@ -10,7 +10,7 @@ use std::io::ErrorKind;
 use std::marker::Model;
 use std::rt::Files;
 use tv_base::{IoError, IoFault, IoKind, OpenDirectoryError, Sink};
-use tv_directory::{Desk, NoWatch};
+use tv_device::{Desk, NoWatch};
 use tv_files::{MmapDirectory, ReadSource, StdoutSink, read_at_most};
 use tv_formats::Memory;
 

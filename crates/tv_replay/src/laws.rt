@@ -18,7 +18,7 @@ use crate::replaying::{Replayed, replay};
 use crate::script::parse_event;
 use std::alloc::Global;
 use tv_base::{Source, TantivyError};
-use tv_directory::Outside;
+use tv_device::Outside;
 use tv_formats::Memory;
 use tv_machine::Event;
 

@@ -5,7 +5,7 @@ ghost use Rattle.tv_replay.specs.PlaceView.{PlaceTold, PlaceView, PlaceKept, Onl
 ghost use Rattle.tv_replay.specs.PlaceView.{PlaceFaults, LendFaults, SayFaults, Lends, TakesBack, ScriptEnds, Says};
 
 use tv_base::{IoError, IoFault, OpenDirectoryError, Source};
-use tv_directory::Outside;
+use tv_device::Outside;
 
 /// What a run of the program stands in: schemas and scripts by path, folders, and somebody who is
 /// told what the run says.

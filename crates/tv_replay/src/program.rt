@@ -13,7 +13,7 @@ use crate::replaying::{Replayed, replay};
 use crate::summary::summary_of;
 use std::alloc::Global;
 use tv_base::{Source, TantivyError};
-use tv_directory::Outside;
+use tv_device::Outside;
 
 const USAGE: &str =
     "usage: tv replay FOLDER SCHEMA | space FOLDER SCHEMA | generate N | race FOLDER SCHEMA HANDLES SCRIPT..";

@@ -16,7 +16,7 @@ use crate::next_event::{ScriptError, next_event};
 use crate::script_buffer::ScriptBuffer;
 use std::alloc::{AllocError, Global};
 use tv_base::{Source, TantivyError};
-use tv_directory::Outside;
+use tv_device::Outside;
 use tv_managed::Refused;
 use tv_store::IndexStore;
 

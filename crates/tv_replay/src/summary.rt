@@ -1,7 +1,7 @@
 //! What is said of the replay of a generated script.
 ghost use Rattle.std.specs.Prelude.{◌≡◌, ◌<◌, ◌^◌, List, ℕ, map, true, filter, length, is_some, IfOk, string_bytes};
 ghost use Rattle.std.specs.List.{list_all};
-ghost use Rattle.tv_directory.specs.Telling.{bytes_heard};
+ghost use Rattle.tv_directory.specs.Pieces.{bytes_heard};
 ghost use Rattle.tv_formats.specs.Commits.{Settings};
 ghost use Rattle.tv_machine.specs.Index.{DirectoryHolds};
 ghost use Rattle.tv_formats.specs.Names.{is_plain};
@@ -13,7 +13,8 @@ use crate::replaying::{Replayed, replay};
 use crate::script::words_of;
 use std::alloc::Global;
 use tv_base::{META_FILEPATH, OpenReadError, Opstamp, TantivyError, TextSource};
-use tv_directory::{Bench, Directory, NoWatch};
+use tv_device::{Directory, NoWatch};
+use tv_directory::Bench;
 use tv_formats::Memory;
 use tv_index::UntrackedIndexMeta;
 use tv_managed::{ManagedDirectory, Refused};

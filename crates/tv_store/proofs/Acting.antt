@@ -4,9 +4,9 @@ use Rattle.std.specs.Prelude.{IfOk, OnOk}
 use Rattle.std.proofs.lemmas.Result.{on_ok_weaker}
 use Rattle.tv_base.specs.declared.error.TantivyError.{TantivyError}
 use Rattle.tv_base.specs.declared.error.TantivyError.TheVariants as errors
-use Rattle.tv_directory.specs.View.{View, Told as ToldParts, Kept as KeptView, OnlyReads}
-use Rattle.tv_directory.specs.ViewLaws.{goes_on_itself, kept_itself}
-use Rattle.tv_directory.specs.declared.directory.Directory.{Ghosts}
+use Rattle.tv_device.specs.View.{View, Told as ToldParts, Kept as KeptView, OnlyReads}
+use Rattle.tv_device.specs.ViewLaws.{goes_on_itself, kept_itself}
+use Rattle.tv_device.specs.declared.directory.Directory.{Ghosts}
 use Rattle.tv_managed.specs.Collecting.{meta_lock_name}
 use Rattle.tv_machine.specs.Living.{is_busy}
 use Rattle.tv_formats.specs.Names.{meta_name}
@@ -23,11 +23,11 @@ use Rattle.tv_store.specs.Exhausted.{IsExhausted, SpendsSearcher}
 use Rattle.tv_store.specs.ReaderNumbers.{FewNumbers}
 use Rattle.tv_store.specs.Effects.{TakesMetaLock, written_by}
 use Rattle.tv_store.specs.ReadCauses.{IsReadError}
-use Rattle.tv_store.specs.Applying.{Stepped, ActCause, ApplyFaults, AsksNoFile, LeavesAlone, MayNoteAt, UnloadedAt, event_facts}
+use Rattle.tv_store.specs.Applying.{Stepped, ActCause, ApplyFaults, AsksNoFile, MayNoteAt, UnloadedAt, event_facts}
 use Rattle.tv_store.specs.Stays.{Asks, Stays, KeepsDotted, EventFaults}
 use Rattle.tv_store.specs.Acting.{Acts, KeepsMeta, LeavesStep, Passes, StepsTo}
 use Rattle.tv_store.specs.Catalogs.{CatalogCause, FitsCatalog}
-use Rattle.tv_store.proofs.Holding.{same_holds}
+use Rattle.tv_store.proofs.Holding.{reads_alone, same_holds}
 use Rattle.tv_store.proofs.KeptLocks.{keeps_same}
 use Rattle.tv_store.proofs.Lifting.{catalog_held, numbers_grow, plain_event}
 use Rattle.tv_store.proofs.Spending.{IsSpentBy, searcher_spent, spends_searcher}
@@ -41,10 +41,6 @@ passed told event old new none h = record {
   locks = λ t. keeps_same false false old.locks new.locks refl (h.frame.locks t);
   watched = notes_none event none old.watched new.watched h.watched;
 }
-
--- what only reads leaves all alone
-left_alone : {O W C : Type 0} (g : Ghosts O W C) {old new : View W} → OnlyReads g.told old new → g.told.content → LeavesAlone old new
-left_alone g below tells = record { reads = below.content tells; watched = below.kept.watched }
 
 module _ {O W C : Type 0} (g : Ghosts O W C) (old new : StoreState O) (event shown : Event) (is : event ≡ shown) (result : Result (List ℕ) TantivyError) where
   abbrev pub RefusedOne : Type 0
@@ -95,7 +91,7 @@ module _ {O W C : Type 0} (g : Ghosts O W C) (old new : StoreState O) (event sho
   }
 
   step_alone : IsNoCommit shown → ((s : State) → ReadsGood s shown) → OnlyReads g.told (g.view old.outside) (g.view new.outside) → StepsTo g old new (λ s. step s shown []) result → Steps
-  step_alone none good below h = stepped g old new shown none (λ s. step s shown []) result below.kept.frame.tells_none.deletes_none.refusals (λ s. refl) good (left_alone g below) h
+  step_alone none good below h = stepped g old new shown none (λ s. step s shown []) result below.kept.frame.tells_none.deletes_none.refusals (λ s. refl) good (reads_alone below) h
 
 -- an event that touches no file, whose answer was told in room that was made for it
 pub acts_known : {O W C : Type 0} (g : Ghosts O W C) (old mid new : StoreState O) (event : Event) (known : StepResult Catalog) (result : Result (List ℕ) TantivyError)

@@ -5,9 +5,9 @@ use Rattle.std.specs.List.{AllByRecursion}
 use Rattle.tv_base.specs.declared.error.TantivyError.{TantivyError}
 use Rattle.tv_base.specs.declared.error.TantivyError.TheVariants as errors
 use Rattle.tv_base.specs.declared.open_errors.LockError.TheVariants as lock
-use Rattle.tv_directory.specs.View.{OnlyReads, View}
-use Rattle.tv_directory.specs.ViewLaws.{goes_on_itself, goes_then}
-use Rattle.tv_directory.specs.declared.directory.Directory.{Ghosts}
+use Rattle.tv_device.specs.View.{OnlyReads, View}
+use Rattle.tv_device.specs.ViewLaws.{goes_on_itself, goes_then}
+use Rattle.tv_device.specs.declared.directory.Directory.{Ghosts}
 use Rattle.tv_formats.specs.Collections.{Collection, Collections, collection_at}
 use Rattle.tv_formats.proofs.SpelledCommits.{means_commit}
 use Rattle.tv_formats.specs.Commits.{Commit, IndexForm, IsSegment}
@@ -16,7 +16,7 @@ use Rattle.tv_formats.specs.Meaning.{Means}
 use Rattle.tv_machine.specs.CommitEvents.{commit_step}
 use Rattle.tv_formats.specs.Segments.{all_required}
 use Rattle.tv_machine.specs.FileEvents.{sealed_as, written_to, wrote}
-use Rattle.tv_directory.specs.Watch.{WatchState, noted}
+use Rattle.tv_device.specs.Watch.{WatchState, noted}
 use Rattle.tv_formats.specs.Names.{at, meta_name}
 use Rattle.tv_machine.specs.Machine.{refused_in, step}
 use Rattle.tv_machine.specs.Readable.{AreGoodFiles, ReadsGood}
@@ -378,10 +378,10 @@ module _ {O W C : Type 0} (g : Ghosts O W C) (catalog : Catalog) (standing : Sta
       unperformed error p =
           let new = store_of catalog last standing in
           stopped new error (lens_of p catalog)
-          (why_failed planned.action error plans.loads plans.locks (λ spent. plans.spends (subst (λ c. SpentBy c planned.action) (ap (λ k. k.collections) kept) spent)) p.cause)
+          (why_failed planned.action error plans.loads plans.locks (λ spent. plans.spends (subst (λ c. SpentBy c planned.action) (ap (λ k. k.collections) kept) spent)) p.faults.cause)
           (record {
-            meta = λ tells s held whole. ([], left tells s held (p.meta tells s (files_hold tells s held) whole (plans.suits s (in_memory s held)) []));
-            memory = λ tells wanted. p.memory tells wanted ∙ below.content tells meta_name;
+            meta = λ tells s held whole. ([], left tells s held (p.meta.failed tells s (files_hold tells s held) whole (plans.suits s (in_memory s held)) []));
+            memory = λ tells wanted. p.meta.memory tells wanted ∙ below.content tells meta_name;
           })
           (λ tells n dot other. p.dotted tells n dot other ∙ below.content tells n) (p.form ∙ asked.managed.form) refl (passed p) where
             left : g.told.content → (s : State) → Holds (g.view first.outside).reads (kept_of catalog first) s
@@ -395,7 +395,7 @@ module _ {O W C : Type 0} (g : Ghosts O W C) (catalog : Catalog) (standing : Sta
       -- memory was wanted for what is known beside the files
       pub unsettled : (c : Catalog) (reply : Reply) → Performs g planned.action next last (Ok reply) → SavedNone reply → Acts g Old (store_of c last standing) event (Err errors.Memory)
       unsettled c reply p none =
-          stopped (store_of c last standing) errors.Memory (lens_of p c) (by_lock (store_of c last standing) errors.Memory (p.quiet ∙ same)) (kept_meta (store_of c last standing) errors.Memory (λ tells. p.spared tells none ∙ below.content tells meta_name))
+          stopped (store_of c last standing) errors.Memory (lens_of p c) (by_lock (store_of c last standing) errors.Memory (p.faults.quiet ∙ same)) (kept_meta (store_of c last standing) errors.Memory (λ tells. p.meta.spared tells none ∙ below.content tells meta_name))
           (λ tells n dot other. p.dotted tells n dot other ∙ below.content tells n) (p.form ∙ asked.managed.form) refl (passed p)
 
       -- it was answered, and what is known beside the files was settled
@@ -413,9 +413,9 @@ module _ {O W C : Type 0} (g : Ghosts O W C) (catalog : Catalog) (standing : Sta
             few_after bound (written_by event) catalog planned.change reply first.collections last.collections (omega (arith, plans.numbers))
             (omega (arith, p.numbers, plans.numbers, few.next_collection, ap (λ k. k.collections.next) kept)) few;
         faults = record {
-          quiet = p.quiet ∙ same;
-          free = λ told takes. sym (below.kept.frame.locks told meta_lock_name) ∙ p.free told (plans.unlocked takes);
-          fits = λ spent. p.fits (subst (λ c. SpentBy c planned.action) (sym (ap (λ k. k.collections) kept)) (plans.fits spent));
+          quiet = p.faults.quiet ∙ same;
+          free = λ told takes. sym (below.kept.frame.locks told meta_lock_name) ∙ p.faults.free told (plans.unlocked takes);
+          fits = λ spent. p.faults.fits (subst (λ c. SpentBy c planned.action) (sym (ap (λ k. k.collections) kept)) (plans.fits spent));
           reads = λ told. tt;
           cause = tt;
         };
@@ -439,7 +439,7 @@ module _ {O W C : Type 0} (g : Ghosts O W C) (catalog : Catalog) (standing : Sta
               held = subst (λ (t : State). Holds (g.view last.outside).reads new.kept t) state
                   (changed_holds (g.view last.outside).reads last now planned.change reply (settled catalog planned.change reply)
                   known (plans.segments s (in_memory s held) reply) did.held);
-              readable = reads_good planned.action s reply plans.loads held whole p.cause tells;
+              readable = reads_good planned.action s reply plans.loads held whole p.faults.cause tells;
               unchanged = λ by_step stays.
                   let alone : LeavesAlone (g.view next.outside) (g.view last.outside) =
                   ⊎_elim (λ nothing. did.same (plans.changes by_step) (sym (ap (λ (c : Change). changed now c reply) nothing) ∙ state ∙ stays)) (λ only. p.alone only tells) (beside_of event planned.action planned.change plans.beside) in

@@ -12,7 +12,7 @@ use Rattle.tv_formats.specs.Files.{has_no_feed}
 use Rattle.tv_formats.proofs.NoFeeds.{no_feed_append}
 use Rattle.tv_formats.proofs.CollectedNames.{has_without}
 use Rattle.tv_formats.proofs.Entries.{at_itself, is_by_order, is_text, below_absent}
-use Rattle.tv_directory.specs.declared.directory.Directory.{Ghosts}
+use Rattle.tv_device.specs.declared.directory.Directory.{Ghosts}
 use Rattle.tv_managed.specs.Collecting.{Tries, taken_by}
 use Rattle.tv_managed.specs.Names.{ManagedNames}
 use Rattle.tv_managed.specs.declared.collection.GarbageCollectionResult.{GarbageCollectionResult}

@@ -3,10 +3,10 @@ use Rattle.std.proofs.Common.{ℕ, ◌≡◌, ◌≤◌, ◌+◌, ◌∙◌, inl
 use Rattle.std.specs.Prelude.{IfErr, IfSome, IsSome, Result, is_ok}
 use Rattle.tv_base.specs.declared.error.TantivyError.{TantivyError}
 use Rattle.tv_base.specs.declared.error.TantivyError.TheVariants as errors
-use Rattle.tv_directory.specs.View.{OnlyReads, OnlyTells}
-use Rattle.tv_directory.specs.ViewLaws.{goes_then}
-use Rattle.tv_directory.specs.Watch.{WatchState}
-use Rattle.tv_directory.specs.declared.directory.Directory.{Ghosts}
+use Rattle.tv_device.specs.View.{OnlyReads, OnlyTells}
+use Rattle.tv_device.specs.ViewLaws.{goes_then}
+use Rattle.tv_device.specs.Watch.{WatchState}
+use Rattle.tv_device.specs.declared.directory.Directory.{Ghosts}
 use Rattle.tv_formats.specs.Files.{Heard, Rose, RoseBy}
 use Rattle.tv_base.specs.declared.io.IoFault.{IoFault}
 use Rattle.tv_machine.specs.Machine.{catalog_step, step, refused_in}

@@ -1,8 +1,8 @@
 -- What two calls leave alone, one after the other.
 use Rattle.std.proofs.Common.{ℕ, ◌≡◌, Result}
 use Rattle.tv_machine.specs.State.{Catalog}
-use Rattle.tv_directory.specs.Calls.{MakesRoom}
-use Rattle.tv_directory.specs.View.{View, Told, OnlyReads}
+use Rattle.tv_device.specs.Calls.{MakesRoom}
+use Rattle.tv_device.specs.View.{View, Told, OnlyReads}
 use Rattle.tv_store.specs.Kept.{FilesState, kept_of}
 use Rattle.tv_store.specs.Stays.{KeepsFiles}
 

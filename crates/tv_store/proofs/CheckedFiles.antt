@@ -5,10 +5,10 @@ use Rattle.tv_base.specs.Errors.{of_open_read}
 use Rattle.tv_base.specs.declared.error.TantivyError.{TantivyError}
 use Rattle.tv_base.specs.declared.open_errors.OpenReadError.{OpenReadError}
 use Rattle.tv_base.specs.declared.open_errors.OpenReadError.TheVariants as read
-use Rattle.tv_directory.specs.Calls.{MakesRoom}
-use Rattle.tv_directory.specs.View.{OnlyReads, OnlyTells, View, Told as ToldParts}
-use Rattle.tv_directory.specs.ViewLaws.{deletes_then, kept_itself}
-use Rattle.tv_directory.specs.declared.directory.Directory.{Ghosts}
+use Rattle.tv_device.specs.Calls.{MakesRoom}
+use Rattle.tv_device.specs.View.{OnlyReads, OnlyTells, View, Told as ToldParts}
+use Rattle.tv_device.specs.ViewLaws.{deletes_then, kept_itself}
+use Rattle.tv_device.specs.declared.directory.Directory.{Ghosts}
 use Rattle.tv_index.specs.Crashes.{OnlyLooks}
 use Rattle.tv_managed.specs.Collecting.{TakesNoLock}
 use Rattle.tv_formats.specs.Commits.{Commit}

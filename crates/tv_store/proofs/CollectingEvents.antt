@@ -8,7 +8,7 @@ use Rattle.tv_formats.specs.Collections.{Collection, Collections, collectable, c
 use Rattle.tv_machine.specs.CollectionEvents.{ended, garbage, gc_begin_step, having_deleted}
 use Rattle.tv_machine.specs.State.{Catalog, State, FileState}
 use Rattle.tv_formats.proofs.CollectedNames.{has_without}
-use Rattle.tv_directory.specs.declared.directory.Directory.{Ghosts}
+use Rattle.tv_device.specs.declared.directory.Directory.{Ghosts}
 use Rattle.tv_store.specs.CollectingCalls.{BeginsCollection, FinishesCollection, TriesNext, gone_of}
 use Rattle.tv_store.specs.Kept.{FilesState, Holds, KeptState, kept_of}
 use Rattle.tv_store.specs.Stays.{KeepsAllButList}

@@ -15,7 +15,7 @@ use Rattle.tv_formats.proofs.CollectedNames.{done_within, has_append}
 use Rattle.tv_formats.proofs.Entries.{is_text, isnt_one}
 use Rattle.tv_formats.proofs.Options.{some_value}
 use Rattle.tv_machine.proofs.Collects.{failed_within}
-use Rattle.tv_directory.specs.declared.directory.Directory.{Ghosts}
+use Rattle.tv_device.specs.declared.directory.Directory.{Ghosts}
 use Rattle.tv_managed.specs.Collecting.{EndsCollection as EndsManaged}
 use Rattle.tv_managed.specs.Collecting.{Among, Begins, CollectCause, CollectFaults, IsLast, Leaves, SparesWriters, Steps, TakesNoLock, TriesName, is_done, meta_lock_name, taken_by, tried_name}
 use Rattle.tv_managed.specs.Names.{ManagedNames}

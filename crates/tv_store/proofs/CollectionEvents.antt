@@ -13,7 +13,7 @@ use Rattle.tv_formats.specs.Meaning.{Means}
 use Rattle.tv_formats.specs.Commits.{Commit, IsSegment, IndexForm}
 use Rattle.tv_formats.proofs.CollectedNames.{has_append, has_without, at_without}
 use Rattle.tv_machine.proofs.CollectionStates.{living_spared, meta_living, at_left}
-use Rattle.tv_directory.specs.declared.directory.Directory.{Ghosts}
+use Rattle.tv_device.specs.declared.directory.Directory.{Ghosts}
 use Rattle.tv_managed.specs.Collecting.{FailsAtMost}
 use Rattle.tv_store.specs.FileCalls.{TriesNames, Collects, LeavesFiles}
 use Rattle.tv_store.specs.Kept.{FilesState, Holds, FileHolds, is_left, kept_of}

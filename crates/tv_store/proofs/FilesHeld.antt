@@ -18,10 +18,13 @@ use Rattle.tv_formats.specs.Collections.{Collections, held}
 use Rattle.tv_machine.specs.Living.{living}
 use Rattle.tv_machine.specs.SoundStates.{IsWhole}
 use Rattle.tv_machine.specs.Index.{IsFileOf}
+use Rattle.std.specs.Cmp.{eq_by_cmp_equiv}
+use Rattle.std.proofs.lemmas.Map.{lookup-set_value}
+use Rattle.std.specs.Cmp.Lexicographic.{nat_list_cmp_total}
 use Rattle.tv_formats.proofs.Entries.{at_itself, text_at, lookup_put, has_kept}
 use Rattle.tv_machine.proofs.SoundStates.{put_some}
-use Rattle.tv_directory.specs.View.{Kept as KeptView}
-use Rattle.tv_directory.specs.declared.directory.Directory.{Ghosts}
+use Rattle.tv_device.specs.View.{Kept as KeptView}
+use Rattle.tv_device.specs.declared.directory.Directory.{Ghosts}
 use Rattle.tv_formats.specs.Meaning.{Means}
 use Rattle.tv_formats.specs.Commits.{IndexForm}
 use Rattle.tv_store.proofs.Listings.{listing_beside, undotted_isnt_list}
@@ -34,7 +37,7 @@ use Rattle.tv_store.specs.declared.action.Reply.TheVariants as replies
 use Rattle.tv_store.specs.Stays.{KeepsManaged}
 use Rattle.tv_store.proofs.Changed.{opened_anew, sealed_now, wrote_more}
 use Rattle.tv_store.proofs.Holding.{same_holds}
-use Rattle.tv_store.proofs.OpenFiles.{all_put, all_left, all_found, all_set, at_set}
+use Rattle.tv_store.proofs.OpenFiles.{all_put, all_left, all_found, all_set}
 use Rattle.tv_store.proofs.Removals.{at_removed}
 
 -- ---- steps of files
@@ -192,7 +195,8 @@ module _ {O W C : Type 0} (g : Ghosts O W C) (old new : FilesState O) (s : State
     bytes_added bytes others there frame puts =
         let text = bytes.now in
         let looks : (n : List ℕ) → at new.open_files n ≡ cond (is_at (byte_cmp name) n) (Some (body ++ text)) (at old.open_files n) =
-        λ n. ap (λ (es : List (List ℕ × List ℕ)). at es n) puts ∙ at_set old.open_files name n (body ++ text) (ap is_some is_open) in
+        λ n. ap (λ (es : List (List ℕ × List ℕ)). at es n) puts ∙
+        lookup-set_value (eq_by_cmp_equiv nat_list_cmp_total) (is_at (byte_cmp name)) (λ x y same. ap (λ (k : List ℕ). is_at (byte_cmp k) y) (text_at name x same)) n (body ++ text) old.open_files (ap is_some is_open) in
         record {
           reply_is = refl;
           held = by_body (FilesHold g new) (wrote s name text)

@@ -4,7 +4,7 @@ use Rattle.std.specs.Prelude.{IsSome, is_some, option_map}
 use Rattle.std.specs.List.Sorted.{IsStrictlySortedBy}
 use Rattle.std.specs.List.{AllByRecursion}
 use Rattle.serde_json.specs.Data.{Data}
-use Rattle.tv_directory.specs.declared.directory.Directory.{Ghosts}
+use Rattle.tv_device.specs.declared.directory.Directory.{Ghosts}
 use Rattle.tv_index.specs.Opening.{first_text}
 use Rattle.tv_formats.specs.Commits.{Commit, Settings, IndexForm, IsCommit, IsSegment, default_settings, first_commit}
 use Rattle.tv_formats.specs.Files.{Reads}

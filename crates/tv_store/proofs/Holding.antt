@@ -4,6 +4,8 @@ use Rattle.tv_formats.specs.Names.{is_undotted, meta_name, at}
 use Rattle.tv_formats.specs.Files.{Reads, Same}
 use Rattle.tv_machine.specs.State.{State, file_at}
 use Rattle.tv_managed.specs.Managed.{KeepsOtherFiles}
+use Rattle.tv_device.specs.View.{OnlyReads, Told, View}
+use Rattle.tv_store.specs.Applying.{LeavesAlone}
 use Rattle.tv_store.specs.Kept.{KeptState, FileHolds, Holds}
 use Rattle.tv_store.specs.Stays.{KeepsDotted}
 use Rattle.tv_store.proofs.Listings.{listing_kept}
@@ -27,3 +29,7 @@ same_holds old new was now s same is h =
 -- where no other file than an undotted one and the list was changed, no other dotted one was
 pub dotted_others : (old new : Reads) (name : List ℕ) → is_undotted name ≡ true → KeepsOtherFiles old new name → KeepsDotted old new
 dotted_others old new name undotted others n dot other = others n (λ e. true≢false (sym (ap is_undotted e ∙ undotted) ∙ dot)) other
+
+-- what only reads leaves all alone
+pub reads_alone : {W : Type 0} {told : Told} {old new : View W} → OnlyReads told old new → told.content → LeavesAlone old new
+reads_alone below tells = record { reads = below.content tells; watched = below.kept.watched }

@@ -1,6 +1,6 @@
 -- The locks that an event keeps.
 use Rattle.std.proofs.Common.{◌≡◌, Bool, true, false, true≢false, sym, ◌∙◌}
-use Rattle.tv_directory.specs.Locks.{Locks, SameLocks}
+use Rattle.tv_device.specs.Locks.{Locks, SameLocks}
 use Rattle.tv_store.specs.Applying.{KeepsLocks}
 
 -- each stands as it stood, and no reload was left unfinished or ended

@@ -7,7 +7,7 @@ use Rattle.tv_formats.specs.Names.{byte_cmp, has, is, is_undotted, list_name}
 use Rattle.tv_formats.proofs.Entries.{has_put, is_text, isnt_text}
 use Rattle.tv_machine.specs.Index.{IsFileOf}
 use Rattle.tv_base.specs.declared.open_errors.OpenWriteError.{OpenWriteError}
-use Rattle.tv_directory.specs.declared.directory.Directory.{Ghosts}
+use Rattle.tv_device.specs.declared.directory.Directory.{Ghosts}
 use Rattle.tv_managed.specs.Managed.{Creates, KeepsOtherFiles}
 use Rattle.tv_managed.specs.Names.{ManagedNames}
 use Rattle.tv_store.specs.OpenFiles.{AreThere}

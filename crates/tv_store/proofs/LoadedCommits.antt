@@ -1,10 +1,10 @@
 -- The commit that is loaded from `meta.json` is that of each state that is held.
 use Rattle.std.proofs.Common.{◌≡◌, ℕ, List, Option, Some, sym, ap, subst, ◌∙◌}
-use Rattle.tv_directory.specs.declared.directory.Directory.{Ghosts}
-use Rattle.tv_index.specs.Metas.{commit_of, settings_of}
-use Rattle.tv_index.specs.Parsing.{MeansOtherThan}
+use Rattle.tv_device.specs.declared.directory.Directory.{Ghosts}
+use Rattle.tv_metas.specs.Metas.{commit_of, settings_of}
+use Rattle.tv_metas.specs.Parsing.{MeansOtherThan}
 use Rattle.tv_index.specs.Standing.{LoadsMeta, OfRead}
-use Rattle.tv_index.specs.declared.index_meta.UntrackedIndexMeta.{UntrackedIndexMeta}
+use Rattle.tv_metas.specs.declared.index_meta.UntrackedIndexMeta.{UntrackedIndexMeta}
 use Rattle.tv_formats.specs.Commits.{Commit}
 use Rattle.tv_formats.specs.Files.{Reads}
 use Rattle.tv_formats.specs.Meaning.{Means, MeansNothing}

@@ -7,11 +7,11 @@ use Rattle.tv_base.specs.declared.error.TantivyError.TheVariants as errors
 use Rattle.tv_base.specs.declared.io.IoFault.{IoFault}
 use Rattle.tv_base.specs.declared.open_errors.LockError.{LockError}
 use Rattle.tv_base.specs.declared.open_errors.LockError.TheVariants as lock
-use Rattle.tv_directory.specs.Images.{KeepsDisk}
-use Rattle.tv_directory.specs.Locks.{LockCause, SameLocks, TakesLock}
-use Rattle.tv_directory.specs.View.{OnlyLocks, OnlyReads}
-use Rattle.tv_directory.specs.ViewLaws.{reads_then, tells_then}
-use Rattle.tv_directory.specs.declared.directory.Directory.{Ghosts}
+use Rattle.tv_device.specs.Images.{KeepsDisk}
+use Rattle.tv_device.specs.Locks.{LockCause, SameLocks, TakesLock}
+use Rattle.tv_device.specs.View.{OnlyLocks, OnlyReads}
+use Rattle.tv_device.specs.ViewLaws.{reads_then, tells_then}
+use Rattle.tv_device.specs.declared.directory.Directory.{Ghosts}
 use Rattle.tv_index.specs.CrashLaws.{looks_kept, looks_then}
 use Rattle.tv_index.specs.Crashes.{OnlyLooks}
 use Rattle.tv_index.specs.Openable.{FindsOpenable, IsOpenable, NotOpenable}

@@ -1,9 +1,7 @@
 -- Lines of names, and what live segments are.
-use Rattle.std.proofs.Common.{◌≡◌, ℕ, true, false, cond, List, [], ◌∷◌, ◌++◌, map, Some, refl, sym, ap, subst, ◌∙◌, string_bytes, String, Global, arith}
-use Rattle.std.specs.declared.cmp.Ordering.TheVariants.{Less, Equal, Greater}
-use Rattle.std.specs.Ordering.{match_ordering}
+use Rattle.std.proofs.Common.{◌≡◌, ℕ, true, List, [], ◌∷◌, ◌++◌, map, Some, refl, ap, ◌∙◌, string_bytes, String, Global, arith}
 use Rattle.std.specs.List.{list_all, AllByRecursion}
-use Rattle.std.specs.BTreeMap.{is_at, insert_entry}
+use Rattle.std.specs.BTreeMap.{insert_entry}
 use Rattle.std.proofs.lemmas.List.{map_push}
 use Rattle.tv_formats.specs.declared.segment.LiveSegment.{LiveSegment}
 use Rattle.tv_formats.specs.Names.{byte_cmp, is_plain, at}
@@ -12,7 +10,7 @@ use Rattle.tv_formats.specs.Commits.{IsSegment}
 use Rattle.tv_machine.specs.Lines.{line}
 use Rattle.tv_formats.specs.Files.{has_no_feed}
 use Rattle.tv_formats.specs.Segments.{fresh_segment}
-use Rattle.tv_formats.proofs.Entries.{text_at}
+use Rattle.tv_store.proofs.OpenFiles.{all_found, all_put}
 use Rattle.tv_formats.proofs.PlainNames.{plain_head}
 use Rattle.tv_formats.proofs.NoFeeds.{no_feed_plain}
 
@@ -40,22 +38,8 @@ fresh_is id is = record { id = is; max_doc = omega arith; deletes = omega arith;
 
 -- one more segment, or another in the place of one with its id
 pub put_segments : (es : List (List ℕ × LiveSegment)) (id : List ℕ) (segment : LiveSegment) → IsSegment (id, segment) → AllByRecursion IsSegment es → AllByRecursion IsSegment (insert_entry byte_cmp es id segment)
-put_segments [] id segment is h = (is, tt)
-put_segments (e ∷ es) id segment is h =
-    elim (byte_cmp id e.0) as (λ r. AllByRecursion IsSegment (match_ordering r ((id, segment) ∷ e ∷ es) ((e.0, segment) ∷ es) (e ∷ insert_entry byte_cmp es id segment))) [
-      | Less ↦ (is, h)
-      | Equal ↦ (record { id = h.0.id; max_doc = is.max_doc; deletes = is.deletes; opstamp = is.opstamp }, h.1)
-      | Greater ↦ (h.0, put_segments es id segment is h.1)
-    ]
+put_segments es id segment is h = all_put IsSegment es id segment is h
 
 -- the segment that stands at an id
 pub found_segment : (es : List (List ℕ × LiveSegment)) (id : List ℕ) (segment : LiveSegment) → at es id ≡ Some segment → AllByRecursion IsSegment es → IsSegment (id, segment)
-found_segment [] id segment e h = absurd cc
-found_segment (x ∷ es) id segment e h =
-    elim (is_at (byte_cmp id) x.0) as (λ b. is_at (byte_cmp id) x.0 ≡ b → cond b (Some x.1) (at es id) ≡ Some segment → IsSegment (id, segment)) [
-      | true ↦ λ t k.
-          let same : id ≡ x.0 = text_at id x.0 t in
-          let it : x.1 ≡ segment = cc in
-          subst (λ (n : List ℕ). IsSegment (n, segment)) (sym same) (subst (λ (v : LiveSegment). IsSegment (x.0, v)) it h.0)
-      | false ↦ λ t k. found_segment es id segment k h.1
-    ] refl e
+found_segment es id segment e h = all_found IsSegment es id segment h e

@@ -13,10 +13,10 @@ use Rattle.tv_formats.specs.Collections.{Collections, held}
 use Rattle.tv_formats.specs.Files.{Reads, KeepsOthers, Sets}
 use Rattle.tv_formats.specs.Footer.{sealed}
 use Rattle.tv_machine.proofs.Changes.{none_is}
-use Rattle.tv_formats.proofs.Entries.{same_at, text_at}
+use Rattle.tv_formats.proofs.Entries.{text_at}
 use Rattle.tv_formats.proofs.PlainNames.{plain_is_undotted}
-use Rattle.tv_directory.specs.View.{DeletesNone, WriterState}
-use Rattle.tv_directory.specs.declared.directory.Directory.{Ghosts}
+use Rattle.tv_device.specs.View.{DeletesNone, WriterState}
+use Rattle.tv_device.specs.declared.directory.Directory.{Ghosts}
 use Rattle.tv_managed.specs.Managed.{ManagesFile, registered, registering}
 use Rattle.tv_managed.specs.Names.{ManagedNames}
 use Rattle.tv_managed.specs.Writers.{IsNewManaged, IsSummed}
@@ -87,30 +87,6 @@ all_set {X} P (e ∷ es) n v here h =
       | true ↦ λ is. (subst (λ (k : List ℕ). P (k, v)) (text_at n e.0 is) here, h.1)
       | false ↦ λ is. (h.0, all_set P es n v here h.1)
     ] refl
-
-other_way : {X : Type 0} (a b : Bool) (v w : X) (o : Option X) → (a ≡ true → b ≡ true → ⊥) → cond a (Some w) (cond b (Some v) o) ≡ cond b (Some v) (cond a (Some w) o)
-other_way true true v w o apart = absurd (apart refl refl)
-other_way true false v w o apart = refl
-other_way false b v w o apart = refl
-
-same_way : {X : Type 0} (b : Bool) (v w : X) (o : Option X) → cond b (Some v) o ≡ cond b (Some v) (cond b (Some w) o)
-same_way true v w o = refl
-same_way false v w o = refl
-
--- what stands at a name after an entry was changed
-pub at_set : {X : Type 0} (es : List (List ℕ × X)) (k q : List ℕ) (v : X) → IsSome (at es k) → at (set_value (is_at (byte_cmp k)) es v) q ≡ cond (is_at (byte_cmp k) q) (Some v) (at es q)
-at_set [] k q v there = absurd (true≢false (sym there))
-at_set {X} (e ∷ es) k q v there =
-    elim (is_at (byte_cmp k) e.0) as (λ b. is_at (byte_cmp k) e.0 ≡ b → IsSome (cond b (Some e.1) (at es k)) → at (cond b ((e.0, v) ∷ es) (e ∷ set_value (is_at (byte_cmp k)) es v)) q ≡ cond (is_at (byte_cmp k) q) (Some v) (at (e ∷ es) q)) [
-      | true ↦ λ is some.
-          let it : is_at (byte_cmp q) e.0 ≡ is_at (byte_cmp k) q = subst (λ (n : List ℕ). is_at (byte_cmp q) n ≡ is_at (byte_cmp k) q) (text_at k e.0 is) (same_at q k) in
-          ap (λ (b : Bool). cond b (Some v) (at es q)) it ∙ same_way (is_at (byte_cmp k) q) v e.1 (at es q)
-          ∙ ap (λ (b : Bool). cond (is_at (byte_cmp k) q) (Some v) (cond b (Some e.1) (at es q))) (sym it)
-      | false ↦ λ is some.
-          ap (λ (o : Option X). cond (is_at (byte_cmp q) e.0) (Some e.1) o) (at_set es k q v some)
-          ∙ other_way (is_at (byte_cmp q) e.0) (is_at (byte_cmp k) q) v e.1 (at es q)
-          (λ here same. true≢false (sym (subst (λ (n : List ℕ). is_at (byte_cmp k) n ≡ true) (text_at q e.0 here) same) ∙ is))
-    ] refl there
 
 -- what is true of each entry, and of one that is put
 pub all_put : {X : Type 0} (P : List ℕ × X → Type 0) (es : List (List ℕ × X)) (n : List ℕ) (v : X) → P (n, v) → AllByRecursion P es → AllByRecursion P (insert_entry byte_cmp es n v)

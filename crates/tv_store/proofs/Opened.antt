@@ -7,13 +7,13 @@ use Rattle.tv_base.specs.declared.error.TantivyError.{TantivyError}
 use Rattle.tv_base.specs.declared.error.TantivyError.TheVariants as errors
 use Rattle.tv_base.specs.declared.open_errors.OpenReadError.{OpenReadError}
 use Rattle.tv_base.specs.declared.open_errors.OpenReadError.TheVariants as read
-use Rattle.tv_directory.specs.Calls.{Frees}
-use Rattle.tv_directory.specs.Images.{KeepsDisk}
-use Rattle.tv_directory.specs.Locks.{SameLocks}
-use Rattle.tv_directory.specs.View.{OnlyTells}
-use Rattle.tv_directory.specs.ViewLaws.{deletes_then}
-use Rattle.tv_directory.specs.Watch.{WatchState, MayNote, noted}
-use Rattle.tv_directory.specs.declared.directory.Directory.{Ghosts}
+use Rattle.tv_device.specs.Calls.{Frees}
+use Rattle.tv_device.specs.Images.{KeepsDisk}
+use Rattle.tv_device.specs.Locks.{SameLocks}
+use Rattle.tv_device.specs.View.{OnlyTells}
+use Rattle.tv_device.specs.ViewLaws.{deletes_then}
+use Rattle.tv_device.specs.Watch.{WatchState, MayNote, noted}
+use Rattle.tv_device.specs.declared.directory.Directory.{Ghosts}
 use Rattle.tv_managed.specs.declared.managed_directory.Refused.{Refused}
 use Rattle.tv_managed.specs.Collecting.{TakesNoLock}
 use Rattle.tv_formats.specs.Commits.{Commit}

@@ -70,6 +70,8 @@ only_keeps : (s : State) (action : Action) (reply : Reply) → OnlyKeeps action 
 only_keeps s actions.Nothing reply keeps = refl
 only_keeps s (actions.Leave names) replies.Done keeps = refl
 only_keeps s (actions.Leave names) other keeps = refl
+only_keeps s (actions.Begin living) replies.Done keeps = refl
+only_keeps s (actions.Begin living) other keeps = refl
 only_keeps s actions.Reopen replies.Done keeps = refl
 only_keeps s actions.Reopen other keeps = refl
 only_keeps s (actions.Validate names) reply keeps = refl

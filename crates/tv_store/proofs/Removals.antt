@@ -1,6 +1,6 @@
 -- Entries and names that are taken out: of maps, of sets, and of the open files.
-use Rattle.std.proofs.Common.{◌≡◌, true≢false, ℕ, suc, ◌+◌, ◌≤◌, ◌<◌, inl, inr, Bool, true, false, cond, not, ◌&&◌, ◌||◌, List, [], ◌∷◌, ◌++◌, map, length, get_or, drop, Option, Some, None, option_map, is_some, Result, Ok, Err, refl, sym, ap, subst, ◌∙◌, arith}
-use Rattle.std.specs.Prelude.{Contains, OnOk}
+use Rattle.std.proofs.Common.{◌≡◌, true≢false, ℕ, suc, ◌+◌, ◌≤◌, ◌<◌, inl, inr, Bool, true, false, cond, not, ◌&&◌, ◌||◌, List, [], ◌∷◌, ◌++◌, map, length, get_or, drop, Option, Some, None, option_map, is_some, Result, Ok, refl, sym, ap, subst, ◌∙◌, arith}
+use Rattle.std.specs.Prelude.{Contains}
 use Rattle.std.specs.List.{AllByRecursion, filter, list_all, list_any}
 use Rattle.std.proofs.lemmas.Bool.{and_right, or_right}
 use Rattle.std.proofs.lemmas.List.{drop_more}
@@ -16,8 +16,8 @@ use Rattle.tv_formats.specs.Collections.{Collections, done_of, failed_of, held, 
 use Rattle.tv_formats.proofs.Entries.{same_at, text_at, at_itself, is_text, is_by_order, has_put}
 use Rattle.tv_formats.proofs.PlainNames.{both, plain_is_undotted}
 use Rattle.tv_formats.proofs.CollectedNames.{has_append, has_without}
-use Rattle.tv_directory.specs.View.{GoesOn}
-use Rattle.tv_directory.specs.declared.directory.Directory.{Ghosts}
+use Rattle.tv_device.specs.View.{GoesOn}
+use Rattle.tv_device.specs.declared.directory.Directory.{Ghosts}
 use Rattle.tv_managed.specs.Collecting.{Among, Leaves, Tries, SparesWriters, names_of, taken_by}
 use Rattle.tv_managed.specs.Crashes.{CollectsNames}
 use Rattle.tv_managed.specs.Names.{ManagedNames}
@@ -354,11 +354,6 @@ others_stay {O} new old outside form managed collections =
       files : O → IndexForm → List (List ℕ) → Collections → FilesState O
       files o f names c = record { outside = o; form = f; managed = names; collections = c; open_files = new.open_files; left = new.left }
 
--- what is true where a call succeeds
-pub on_ok_weaker : {A E P Q : Type 0} (result : Result A E) → (P → Q) → OnOk result P → OnOk result Q
-on_ok_weaker (Ok a) f h = f h
-on_ok_weaker (Err e) f h = tt
-
 some_or : {X : Type 0} (b : Bool) (x : X) (rest : Option X) → is_some (cond b (Some x) rest) ≡ (b || is_some rest)
 some_or true x rest = refl
 some_or false x rest = refl
@@ -367,7 +362,3 @@ some_or false x rest = refl
 pub has_keys : {X : Type 0} (es : List (List ℕ × X)) (n : List ℕ) → has (map (λ e. e.0) es) n ≡ is_some (at es n)
 has_keys [] n = refl
 has_keys (e ∷ es) n = rw (is_by_order n e.0, has_keys es n) (sym (some_or (is_at (byte_cmp n) e.0) e.1 (at es n)))
-
-pub map_same : {X : Type 0} (xs : List X) → map (λ x. x) xs ≡ xs
-map_same [] = refl
-map_same {X} (x ∷ xs) = ap (λ (ys : List X). x ∷ ys) (map_same xs)

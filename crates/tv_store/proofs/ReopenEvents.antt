@@ -9,7 +9,7 @@ use Rattle.tv_machine.specs.ReopenEvents.{all_left, reopened}
 use Rattle.tv_machine.specs.State.{Catalog, State, FileState, SealedFile, Open, Left, file_at}
 use Rattle.tv_formats.specs.Names.{at}
 use Rattle.tv_formats.proofs.SpelledCommits.{means_commit}
-use Rattle.tv_directory.specs.declared.directory.Directory.{Ghosts}
+use Rattle.tv_device.specs.declared.directory.Directory.{Ghosts}
 use Rattle.tv_store.specs.Kept.{FilesState, FileHolds, Holds, is_left, kept_of}
 use Rattle.tv_store.specs.Reopening.{Reopens}
 use Rattle.tv_store.proofs.OpenFiles.{at_seen}

@@ -1,5 +1,5 @@
 -- The event that reports on files: whether a file is intact, by what the directory answers and by what is held, and which files are looked at.
-use Rattle.std.proofs.Common.{◌≡◌, ◌≢◌, inl, inr, ℕ, Bool, true, false, true≢false, cond, List, [], ◌∷◌, ◌++◌, filter, Option, Some, None, is_some, refl, sym, ap, subst, ◌∙◌, Ok, Err, ◌⊎◌}
+use Rattle.std.proofs.Common.{◌≡◌, ◌≢◌, inl, inr, ℕ, Bool, true, false, true≢false, cond, List, [], ◌∷◌, filter, Option, Some, None, is_some, refl, sym, ap, subst, ◌∙◌, Ok, Err, ◌⊎◌}
 use Rattle.std.specs.Prelude.{option_and_then, Result, IfOk, OnOk}
 use Rattle.std.specs.List.{flat_map, AllByRecursion}
 use Rattle.tv_base.specs.Causes.{IsDevice}
@@ -81,15 +81,6 @@ pub filter_same : (p q : List ℕ → Bool) (names : List (List ℕ)) → ((n : 
 filter_same p q [] h = refl
 filter_same p q (x ∷ names) h =
     rw (h x) (ap (λ (rest : List (List ℕ)). cond (q x) (x ∷ rest) rest) (filter_same p q names h))
-
--- one name more
-pub filter_more : (p : List ℕ → Bool) (names : List (List ℕ)) (name : List ℕ) → filter p (names ++ name ∷ []) ≡ filter p names ++ cond (p name) (name ∷ []) []
-filter_more p [] name = refl
-filter_more p (x ∷ names) name =
-    elim (p x) as (λ b. cond b (x ∷ filter p (names ++ name ∷ [])) (filter p (names ++ name ∷ [])) ≡ cond b (x ∷ filter p names) (filter p names) ++ cond (p name) (name ∷ []) []) [
-      | true ↦ ap (λ (rest : List (List ℕ)). x ∷ rest) (filter_more p names name)
-      | false ↦ filter_more p names name
-    ]
 
 pub all_had : (P : List ℕ → Type 0) (names : List (List ℕ)) (n : List ℕ) → AllByRecursion P names → has names n ≡ true → P n
 all_had P [] n h e = absurd cc

@@ -1,13 +1,13 @@
 -- What a save does: the files that a commit requires are asked for, and its text is saved.
-use Rattle.std.proofs.Common.{ℕ, ◌≡◌, ◌≢◌, ◌+◌, ◌⊎◌, inl, inr, Bool, true, false, true≢false, cond, not, ◌||◌, List, [], ◌∷◌, Option, Some, None, is_some, Result, Ok, Err, Vec, Global, refl, sym, ap, subst, ◌∙◌, arith}
-use Rattle.std.specs.Prelude.{IfOk, IsSome}
+use Rattle.std.proofs.Common.{ℕ, ◌≡◌, ◌≢◌, ◌+◌, ◌⊎◌, inl, inr, Bool, true, false, true≢false, cond, not, ◌||◌, List, [], ◌∷◌, Option, Some, None, is_some, Ok, Err, Vec, Global, refl, sym, ap, subst, ◌∙◌, arith}
+use Rattle.std.specs.Prelude.{IsSome}
 use Rattle.std.specs.BTreeSet.{insert_key}
 use Rattle.tv_base.specs.declared.error.TantivyError.{TantivyError}
 use Rattle.tv_base.specs.declared.error.TantivyError.TheVariants as errors
 use Rattle.tv_base.specs.declared.open_errors.OpenWriteError.TheVariants as write
-use Rattle.tv_directory.specs.View.{OnlyReads}
-use Rattle.tv_directory.specs.Watch.{noted}
-use Rattle.tv_directory.specs.declared.directory.Directory.{Ghosts}
+use Rattle.tv_device.specs.View.{OnlyReads}
+use Rattle.tv_device.specs.Watch.{noted}
+use Rattle.tv_device.specs.declared.directory.Directory.{Ghosts}
 use Rattle.tv_formats.proofs.Entries.{insert_present, is_itself}
 use Rattle.tv_formats.proofs.ListTexts.{listing_sorted}
 use Rattle.tv_formats.proofs.ReadPrinted.{printed_means}
@@ -21,27 +21,23 @@ use Rattle.tv_index.specs.Saving.{FrameNotes, SavesMeta}
 use Rattle.tv_index.specs.SavingLaws.{notes_later}
 use Rattle.tv_machine.specs.CommitEvents.{is_sealed}
 use Rattle.tv_machine.specs.Index.{IsFileOf}
-use Rattle.tv_machine.specs.SoundStates.{IsWhole}
 use Rattle.tv_machine.specs.State.{Catalog, FileState, Left, Open, SealedFile, State, file_at}
 use Rattle.tv_managed.specs.Managed.{KeepsOtherFiles}
 use Rattle.tv_managed.specs.Names.{ManagedNames}
 use Rattle.tv_store.proofs.Asking.{kept_by_files}
-use Rattle.tv_store.proofs.FewNumbers.{few_given}
 use Rattle.tv_store.proofs.FilesHeld.{short_same}
 use Rattle.tv_store.proofs.Holding.{dotted_others, same_holds}
 use Rattle.tv_store.proofs.Listings.{undotted_isnt_list}
-use Rattle.tv_store.proofs.Performing.{came_undeleted, kept_by, no_lock, on_files}
-use Rattle.tv_store.specs.Actions.{MayGive, Suits, after, first_open, unless_open}
+use Rattle.tv_store.proofs.Performing.{asks_only, no_lock}
+use Rattle.tv_store.specs.Actions.{after, first_open, unless_open}
 use Rattle.tv_store.specs.Applying.{LeavesCommit, SavesPrinted}
 use Rattle.tv_store.specs.FileCalls.{Asked, KeepsOpenFiles}
 use Rattle.tv_store.specs.Kept.{FileHolds, FilesState, is_left, kept_of, names_below}
-use Rattle.tv_store.specs.Performing.{FilesHold, KeepsBy, Performed, Performs, Short}
+use Rattle.tv_store.specs.Performing.{FilesHold, KeepsBy, Performs, Short}
 use Rattle.tv_store.specs.Plans.{SavesNext}
-use Rattle.tv_store.specs.Stays.{EventFaults, KeepsDotted, KeepsFiles}
+use Rattle.tv_store.specs.Stays.{KeepsDotted, KeepsFiles}
 use Rattle.tv_store.specs.StoreCauses.{EventCause}
-use Rattle.tv_store.specs.declared.action.Action.{Action}
 use Rattle.tv_store.specs.declared.action.Action.TheVariants as actions
-use Rattle.tv_store.specs.declared.action.Reply.{Reply}
 use Rattle.tv_store.specs.declared.action.Reply.TheVariants as replies
 
 -- ---- which files are sealed
@@ -92,35 +88,18 @@ module _ {O W C : Type 0} (g : Ghosts O W C) (old mid : FilesState O) (asks : Ke
 -- ---- where nothing is saved
 
 module _ {O W C : Type 0} (g : Ghosts O W C) (commit : Commit) (text : Vec ℕ Global) (required : Vec (List ℕ) Global) (old new : FilesState O) (asks : KeepsFiles (OnlyReads g.told) g.view old new) where
-  -- it was only asked for files
-  asked : (result : Result Reply TantivyError) → IfOk result (MayGive old.collections old.managed (actions.Save commit text required))
-      → (g.told.content → (s : State) → FilesHold g old s → IsWhole s → Suits s (actions.Save commit text required) → IfOk result (Performed g (actions.Save commit text required) old new (s, [])))
-      → EventFaults ⊥ (g.view old.outside) (g.view new.outside) result → Performs g (actions.Save commit text required) old new result
-  asked result gives performed faults =
-      let action : Action = actions.Save commit text required in
-      let kept = asks.managed.below.kept in
-      on_files g action old new result gives (came_undeleted g action old new result kept performed)
-      (λ tells. asks.managed.below.content tells meta_name) (λ tells n dot other. asks.managed.below.content tells n)
-      (λ bound short. short_same bound 0 old.open_files new.open_files asks.open_files short) (few_given 0 result asks.managed.collections) faults asks.managed.form
-      (kept_by g.told action (g.view old.outside) (g.view new.outside) (inl kept.watched) kept) (λ spent. spent) (λ takes. takes) (λ only. only)
-
   -- one of them isn't sealed
   pub unsealed : (name : List ℕ) → has required.items name ≡ true → (g.told.content → (s : State) → FilesHold g old s → Some name ≡ first_open s required.items)
       → (g.view new.outside).faults ≡ (g.view old.outside).faults → Performs g (actions.Save commit text required) old new (Ok (replies.Unsealed name))
   unsealed name among found quiet =
-      asked (Ok (replies.Unsealed name)) (inr (name, among, refl))
-      (λ tells s h whole suits. record {
-        reply_is = ap (unless_open commit) (found tells s h);
-        held = still_held g old new asks s tells h;
-        same = λ some stays. record { reads = asks.managed.below.content tells; watched = asks.managed.below.kept.watched };
-        saves = λ saved e. absurd cc;
-      })
-      (record { quiet = quiet; fits = λ never. never; cause = tt })
+      asks_only g (actions.Save commit text required) old new (Ok (replies.Unsealed name)) (inr (name, among, refl)) (λ tells s h whole suits. (ap (unless_open commit) (found tells s h), refl, λ saved e. absurd cc))
+      (record { quiet = quiet; free = λ locks takes. absurd takes; fits = λ never. never; cause = tt }) asks (inl refl)
 
   -- one can't be asked for
   pub unasked : (error : TantivyError) → EventCause (Rose (g.view old.outside).faults (g.view new.outside).faults) ((g.view new.outside).faults ≡ (g.view old.outside).faults) ⊥ error
       → Performs g (actions.Save commit text required) old new (Err error)
-  unasked error cause = asked (Err error) tt (λ tells s h whole suits. tt) (record { quiet = tt; fits = tt; cause = cause })
+  unasked error cause =
+      asks_only g (actions.Save commit text required) old new (Err error) tt (λ tells s h whole suits. tt) (record { quiet = tt; free = λ locks takes. tt; fits = tt; cause = no_lock _ _ _ _ error cause }) asks (inl refl)
 
 -- ---- what a save leaves
 
@@ -154,6 +133,7 @@ module _ {O W C : Type 0} (g : Ghosts O W C) (commit : Commit) (text : Vec ℕ G
   kept : KeepsBy g.told (actions.Save commit text required) (g.view old.outside) (g.view new.outside)
   kept = record {
     goes_on = notes.frame.tells_none.deletes_none.goes_on;
+    deletes_none = λ none. notes.frame.tells_none.deletes_none;
     heard = notes.frame.tells_none.heard;
     room = notes.frame.tells_none.room;
     locks = notes.frame.locks;
@@ -197,18 +177,18 @@ module _ {O W C : Type 0} (g : Ghosts O W C) (commit : Commit) (text : Vec ℕ G
         gives = tt;
         performed = tt;
         alone = λ only. absurd only;
-        meta = λ tells s h whole suits deletes.
-            subst (λ (c : Commit). LeavesCommit refused before now old.form c) (becomes tells s h)
-            (left_so error refused quiet before now bytes old.form commit cause (memory_is tells) (either_is tells) (means s h));
-        memory = memory_is;
-        spared = λ tells. tt;
+        meta = record {
+          unsaved = λ none. absurd none;
+          failed = λ tells s h whole suits deletes.
+              subst (λ (c : Commit). LeavesCommit refused before now old.form c) (becomes tells s h)
+              (left_so error refused quiet before now bytes old.form commit cause (memory_is tells) (either_is tells) (means s h));
+          memory = memory_is;
+          spared = λ tells. tt;
+        };
         dotted = dotted;
         lens = lens;
         numbers = tt;
-        quiet = tt;
-        free = λ locks takes. tt;
-        fits = tt;
-        cause = no_lock _ refused quiet _ error cause;
+        faults = record { quiet = tt; free = λ locks takes. tt; fits = tt; cause = no_lock _ refused quiet _ error cause };
         form = form;
         frame = kept;
       }
@@ -258,16 +238,11 @@ module _ {O W C : Type 0} (g : Ghosts O W C) (commit : Commit) (text : Vec ℕ G
         },
       );
       alone = λ only. absurd only;
-      meta = λ tells s h whole suits deletes. tt;
-      memory = λ tells. tt;
-      spared = λ tells none. absurd none;
+      meta = record { unsaved = λ none. absurd none; failed = λ tells s h whole suits deletes. tt; memory = λ tells. tt; spared = λ tells none. absurd none };
       dotted = dotted;
       lens = lens;
       numbers = omega (arith, ap (λ (k : Collections). k.next) (frame.collections ∙ asks.managed.collections));
-      quiet = quiet ∙ still;
-      free = λ locks takes. absurd takes;
-      fits = λ spent. spent;
-      cause = tt;
+      faults = record { quiet = quiet ∙ still; free = λ locks takes. absurd takes; fits = λ spent. spent; cause = tt };
       form = form;
       frame = kept;
     }

@@ -6,7 +6,7 @@ use Rattle.tv_base.specs.declared.error.TantivyError.{TantivyError}
 use Rattle.tv_base.specs.declared.error.TantivyError.TheVariants as errors
 use Rattle.tv_base.specs.declared.io.IoError.{IoError}
 use Rattle.tv_base.specs.declared.io.IoError.TheVariants as io
-use Rattle.tv_directory.specs.declared.directory.Directory.{Ghosts}
+use Rattle.tv_device.specs.declared.directory.Directory.{Ghosts}
 use Rattle.tv_index.specs.Crashes.{SavesStates, giving}
 use Rattle.tv_managed.specs.Crashes.{LeavesSafely}
 use Rattle.tv_managed.specs.Names.{ManagedNames}

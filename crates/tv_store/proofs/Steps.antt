@@ -13,9 +13,9 @@ use Rattle.tv_formats.specs.Commits.{IndexForm}
 use Rattle.tv_machine.specs.State.{State, StepResult}
 use Rattle.tv_machine.specs.Machine.{step}
 use Rattle.tv_machine.specs.Readable.{ReadsGood}
-use Rattle.tv_directory.specs.View.{View}
-use Rattle.tv_directory.specs.Watch.{WatchState}
-use Rattle.tv_directory.specs.declared.directory.Directory.{Ghosts}
+use Rattle.tv_device.specs.View.{View}
+use Rattle.tv_device.specs.Watch.{WatchState}
+use Rattle.tv_device.specs.declared.directory.Directory.{Ghosts}
 use Rattle.tv_store.specs.Acting.{IsStep}
 use Rattle.tv_store.specs.StoreCauses.{EventCause, LockingCause}
 

@@ -3,7 +3,7 @@ use Rattle.std.proofs.Common.{◌≡◌, ◌≢◌, ℕ, true, false, true≢fal
 use Rattle.std.specs.BTreeMap.{is_at}
 use Rattle.tv_formats.specs.Names.{byte_cmp}
 use Rattle.tv_formats.proofs.Entries.{at_itself, text_at}
-use Rattle.tv_directory.specs.Locks.{FreesLock, Locks, SameLocks, TakesLock}
+use Rattle.tv_device.specs.Locks.{FreesLock, Locks, SameLocks, TakesLock}
 
 -- whether a name is this one
 same_or : {P : Type 0} (name n : List ℕ) → (n ≡ name → P) → (n ≢ name → P) → P

@@ -3,9 +3,9 @@ use Rattle.std.proofs.Common.{◌≡◌, ◌⊎◌, inl, inr, ℕ, List, Option,
 use Rattle.std.specs.Prelude.{IsSome}
 use Rattle.tv_base.specs.declared.error.TantivyError.{TantivyError}
 use Rattle.tv_base.specs.declared.error.TantivyError.TheVariants as errors
-use Rattle.tv_directory.specs.ViewLaws.{deletes_then, kept_itself}
-use Rattle.tv_directory.specs.Watch.{MayNote, WatchState}
-use Rattle.tv_directory.specs.declared.directory.Directory.{Ghosts}
+use Rattle.tv_device.specs.ViewLaws.{deletes_then, kept_itself}
+use Rattle.tv_device.specs.Watch.{MayNote, WatchState}
+use Rattle.tv_device.specs.declared.directory.Directory.{Ghosts}
 use Rattle.tv_managed.specs.Names.{ManagedNames}
 use Rattle.tv_formats.specs.Files.{Reads, Rose, Same}
 use Rattle.tv_formats.specs.Meaning.{MeansNothing, MeansOther}
@@ -15,8 +15,8 @@ use Rattle.tv_index.specs.CrashLaws.{looks_kept, looks_make, looks_none, looks_t
 use Rattle.tv_index.specs.Crashes.{LacksMeta, MayMake, OnlyLooks, TracksFrom}
 use Rattle.tv_index.specs.Opening.{IsRefusedBytes, LeavesFound, LeavesUnopened, HasList, NotOpened, OfBytes, OpenCause, OpensIndex, first_text}
 use Rattle.tv_index.specs.Saving.{IsUnrefused}
-use Rattle.tv_index.specs.Schemas.{SchemaCause}
-use Rattle.tv_index.specs.declared.index_meta.UntrackedIndexMeta.{UntrackedIndexMeta}
+use Rattle.tv_metas.specs.Schemas.{SchemaCause}
+use Rattle.tv_metas.specs.declared.index_meta.UntrackedIndexMeta.{UntrackedIndexMeta}
 use Rattle.tv_store.specs.Making.{FindsNone, GivesBack, IsRefusedFirst, LeavesRefused, WritesNone}
 use Rattle.tv_store.specs.OpeningCauses.{CallFacts, OpeningCause, opening_facts}
 use Rattle.tv_store.specs.StoreCauses.{writer_lock_name}

@@ -2,7 +2,7 @@
 use Rattle.std.proofs.Common.{◌≡◌, inl, List, ℕ, Result, Ok, Err, refl, sym, subst}
 use Rattle.std.specs.Prelude.{IfErr}
 use Rattle.std.specs.Result.{IsErrAnd}
-use Rattle.tv_directory.specs.declared.directory.Directory.{Ghosts}
+use Rattle.tv_device.specs.declared.directory.Directory.{Ghosts}
 use Rattle.tv_managed.specs.declared.managed_directory.Refused.{Refused}
 use Rattle.tv_formats.specs.Files.{Heard}
 use Rattle.tv_machine.specs.Lines.{opening_of}

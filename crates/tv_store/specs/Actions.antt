@@ -2,7 +2,7 @@
 -- each plan ties them to the event's step.
 use Rattle.std.specs.Prelude.{ℕ, ◌≡◌, ◌≢◌, ◌⊎◌, ◌+◌, ◌++◌, ◌≤◌, Bool, not, true, List, [], ◌∷◌, find, length, codes, map, string_bytes, Option, Some, None, is_some, if◌then◌else◌}
 use Rattle.std.specs.List.{AllByRecursion}
-use Rattle.tv_directory.specs.Watch.{MayNote, WatchState}
+use Rattle.tv_device.specs.Watch.{MayNote, WatchState}
 use Rattle.tv_formats.specs.Collections.{Collection, Collections, collectable, collection_at, done_of, failed_of, held, no_collections, with_begun}
 use Rattle.tv_formats.specs.Commits.{Commit}
 use Rattle.tv_formats.specs.Names.{has, meta_name}
@@ -47,6 +47,7 @@ abbrev pub tried_of : List (List ℕ) → List Bool → Reply
 tried_of [] deletes = replies.Done
 tried_of (name ∷ names) deletes = replies.Tried (record { name = name; is_done = was_done deletes })
 
+-- the first name that a collection has left was tried, where it is unfinished
 abbrev pub tried_in : Option Collection → List Bool → Reply
 tried_in None deletes = replies.Done
 tried_in (Some c) deletes = tried_of c.untried deletes
@@ -79,14 +80,17 @@ abbrev pub of_body : State → Option (List ℕ) → (List ℕ → StepResult St
 of_body s None told = s
 of_body s (Some body) told = (told body).1
 
+-- the state after a collection tried the first of these names, where there is one
 abbrev pub after_one : State → ℕ → Collection → List (List ℕ) → Bool → State
 after_one s number c [] is_done = s
 after_one s number c (name ∷ names) is_done = (having_deleted s number c name names is_done).1
 
+-- the state after a collection tried its next name, where it is unfinished
 abbrev pub after_tried : State → ℕ → Option Collection → Bool → State
 after_tried s number None is_done = s
 after_tried s number (Some c) is_done = after_one s number c c.untried is_done
 
+-- the state after the end of a collection, where it is unfinished
 abbrev pub after_end : State → ℕ → Option Collection → State
 after_end s number None = s
 after_end s number (Some c) = (ended s number c).1
@@ -190,14 +194,26 @@ MayGive collections managed (actions.Load generation) reply =
     (shown : Snapshot) × (reply ≡ replies.Loaded shown)
 MayGive collections managed other reply = reply ≡ replies.Done
 
--- an action that leaves what the directory reads
+-- an action after which each name reads what it read, whatever comes of it
 abbrev pub OnlyKeeps : Action → Type 0
 OnlyKeeps actions.Nothing = Unit {0}
 OnlyKeeps (actions.Leave names) = Unit {0}
+OnlyKeeps (actions.Begin living) = Unit {0}
 OnlyKeeps (actions.Validate names) = Unit {0}
 OnlyKeeps (actions.Load generation) = Unit {0}
 OnlyKeeps actions.Reopen = Unit {0}
 OnlyKeeps other = ⊥
+
+-- an action that saves no commit
+abbrev pub SavesNoCommit : Action → Type 0
+SavesNoCommit (actions.Save commit text required) = ⊥
+SavesNoCommit other = Unit {0}
+
+-- an action that tries to delete files
+abbrev pub TriesDeletes : Action → Type 0
+TriesDeletes (actions.Collect living) = Unit {0}
+TriesDeletes (actions.Try number) = Unit {0}
+TriesDeletes other = ⊥
 
 -- how many bytes an action adds to a file
 abbrev pub added_by : Action → ℕ
@@ -215,7 +231,7 @@ numbers_by (changes.AddReader policy) = 1
 numbers_by (changes.Publish number) = 1
 numbers_by other = 0
 
--- the action isn't one that adds no bytes to a file
+-- every action but one that adds no bytes to a file
 abbrev pub AppendsSome : Action → Type 0
 AppendsSome (actions.Append name bytes) = bytes.now ≢ []
 AppendsSome other = Unit {0}

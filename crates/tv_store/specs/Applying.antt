@@ -3,10 +3,10 @@ use Rattle.std.specs.Prelude.{ℕ, ◌≡◌, ◌≢◌, ◌≤◌, ◌+◌, ◌
 use Rattle.tv_base.specs.declared.error.TantivyError.{TantivyError}
 use Rattle.tv_base.specs.declared.error.TantivyError.TheVariants as errors
 use Rattle.tv_base.specs.declared.open_errors.OpenReadError.{OpenReadError}
-use Rattle.tv_directory.specs.Locks.{FreesLock, Locks, SameLocks, TakesLock}
-use Rattle.tv_directory.specs.View.{View, GoesOn, OnlyTells}
-use Rattle.tv_directory.specs.Watch.{WatchState, MayNote, noted}
-use Rattle.tv_directory.specs.declared.directory.Directory.{Ghosts}
+use Rattle.tv_device.specs.Locks.{FreesLock, Locks, SameLocks, TakesLock}
+use Rattle.tv_device.specs.View.{View, GoesOn, OnlyTells}
+use Rattle.tv_device.specs.Watch.{WatchState, MayNote, noted}
+use Rattle.tv_device.specs.declared.directory.Directory.{Ghosts}
 use Rattle.tv_index.specs.Saving.{saved_text}
 use Rattle.tv_index.specs.Standing.{MetaCause}
 use Rattle.tv_formats.specs.Names.{meta_name}

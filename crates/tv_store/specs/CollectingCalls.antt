@@ -1,8 +1,8 @@
 -- What the calls on the files of a store do that collect some of them in steps.
 use Rattle.std.specs.Prelude.{ℕ, ◌≡◌, ◌<◌, ◌&&◌, ◌++◌, ◌∷◌, Bool, not, true, false, List, [], length, cond, Some, None}
 use Rattle.std.specs.Option.{IsSomeAnd}
-use Rattle.tv_directory.specs.View.{View}
-use Rattle.tv_directory.specs.declared.directory.Directory.{Ghosts}
+use Rattle.tv_device.specs.View.{View}
+use Rattle.tv_device.specs.declared.directory.Directory.{Ghosts}
 use Rattle.tv_formats.specs.Collections.{Collection, Collections, collectable, collection_at, having_tried, held, with_begun, with_collection, without, without_collection}
 use Rattle.tv_formats.specs.Files.{RoseBy}
 use Rattle.tv_formats.specs.Listing.{IsListFile, Listing}

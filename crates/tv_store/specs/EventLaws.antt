@@ -1,6 +1,6 @@
 -- What the laws of a store's events say.
 use Rattle.std.specs.Prelude.{ℕ, ◌≡◌, ◌<◌, true, List, Some}
-use Rattle.tv_directory.specs.declared.directory.Directory.{Ghosts}
+use Rattle.tv_device.specs.declared.directory.Directory.{Ghosts}
 use Rattle.tv_formats.specs.Commits.{Commit}
 use Rattle.tv_formats.specs.Names.{has, at}
 use Rattle.tv_formats.specs.Segments.{num_docs}

@@ -6,8 +6,8 @@ use Rattle.tv_base.specs.declared.error.TantivyError.{TantivyError}
 use Rattle.tv_base.specs.declared.error.TantivyError.TheVariants as errors
 use Rattle.tv_base.specs.declared.open_errors.OpenWriteError.{OpenWriteError}
 use Rattle.tv_base.specs.declared.open_errors.OpenWriteError.TheVariants as write
-use Rattle.tv_directory.specs.View.{View, Told}
-use Rattle.tv_directory.specs.declared.directory.Directory.{Ghosts}
+use Rattle.tv_device.specs.View.{View, Told}
+use Rattle.tv_device.specs.declared.directory.Directory.{Ghosts}
 use Rattle.tv_managed.specs.Collecting.{FailsAtMost, TakesNoLock, meta_lock_name}
 use Rattle.tv_managed.specs.Crashes.{LeavesSafely}
 use Rattle.tv_managed.specs.Managed.{MakesFile}

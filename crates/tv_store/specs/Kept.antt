@@ -9,7 +9,7 @@ use Rattle.tv_formats.specs.Meaning.{Means}
 use Rattle.tv_formats.specs.Collections.{Collections}
 use Rattle.tv_machine.specs.State.{Catalog, State, FileState, SealedFile, Open, Left, file_at}
 use Rattle.tv_machine.specs.Index.{IsFileOf}
-use Rattle.tv_directory.specs.declared.directory.Directory.{Ghosts}
+use Rattle.tv_device.specs.declared.directory.Directory.{Ghosts}
 use Rattle.tv_managed.specs.Names.{ManagedNames}
 
 -- what a store keeps in memory: its index's settings and schema, the catalog, the managed names, the

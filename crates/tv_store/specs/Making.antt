@@ -4,10 +4,10 @@ use Rattle.std.specs.List.Sorted.{IsStrictlySortedBy}
 use Rattle.tv_base.specs.declared.error.DataCorruption.{DataCorruption}
 use Rattle.tv_base.specs.declared.error.TantivyError.{TantivyError}
 use Rattle.tv_base.specs.declared.error.TantivyError.TheVariants as errors
-use Rattle.tv_directory.specs.declared.directory.Directory.{Ghosts}
-use Rattle.tv_directory.specs.Calls.{Frees}
-use Rattle.tv_directory.specs.Images.{KeepsDisk}
-use Rattle.tv_directory.specs.View.{OnlyReads, OnlyTells}
+use Rattle.tv_device.specs.declared.directory.Directory.{Ghosts}
+use Rattle.tv_device.specs.Calls.{Frees}
+use Rattle.tv_device.specs.Images.{KeepsDisk}
+use Rattle.tv_device.specs.View.{OnlyReads, OnlyTells}
 use Rattle.tv_index.specs.Crashes.{LacksMeta, MayMake, OnlyLooks, TracksFrom}
 use Rattle.tv_index.specs.Opening.{Finds, FrameNotesFirst, IsRefusedBytes, LeavesFound, LeavesUnopened, NamesListFile, NotesMade, OpenCause, first_text}
 use Rattle.tv_managed.specs.Collecting.{TakesNoLock}

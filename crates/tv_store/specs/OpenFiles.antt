@@ -1,6 +1,6 @@
 -- The files of a store that are open, and those that are known to be there.
 use Rattle.std.specs.Prelude.{ℕ, ◌≡◌, true, List, IsSome, length}
-use Rattle.tv_directory.specs.declared.directory.Directory.{Ghosts}
+use Rattle.tv_device.specs.declared.directory.Directory.{Ghosts}
 use Rattle.tv_formats.specs.Files.{Reads}
 use Rattle.tv_formats.specs.Names.{has}
 use Rattle.tv_machine.specs.Index.{IsFileOf}

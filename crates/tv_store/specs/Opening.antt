@@ -1,7 +1,7 @@
 -- How an index is opened, or isn't.
 use Rattle.std.specs.Prelude.{ℕ, ◌≡◌, true, List, Result, IfOk, IfErr, MatchResult}
-use Rattle.tv_directory.specs.declared.directory.Directory.{Ghosts}
-use Rattle.tv_directory.specs.Locks.{SameLocks, TakesLock}
+use Rattle.tv_device.specs.declared.directory.Directory.{Ghosts}
+use Rattle.tv_device.specs.Locks.{SameLocks, TakesLock}
 use Rattle.tv_managed.specs.declared.managed_directory.Refused.{Refused}
 use Rattle.tv_formats.specs.Collections.{no_collections}
 use Rattle.tv_formats.specs.Files.{Same}

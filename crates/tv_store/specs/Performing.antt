@@ -4,9 +4,9 @@ use Rattle.std.specs.List.{AllByRecursion}
 use Rattle.tv_base.specs.declared.error.TantivyError.{TantivyError}
 use Rattle.tv_base.specs.declared.error.TantivyError.TheVariants as errors
 use Rattle.tv_base.specs.declared.open_errors.OpenReadError.{OpenReadError}
-use Rattle.tv_directory.specs.Locks.{SameLocks}
-use Rattle.tv_directory.specs.View.{GoesOn, Told, View}
-use Rattle.tv_directory.specs.declared.directory.Directory.{Ghosts}
+use Rattle.tv_device.specs.Locks.{SameLocks}
+use Rattle.tv_device.specs.View.{DeletesNone, GoesOn, Told, View}
+use Rattle.tv_device.specs.declared.directory.Directory.{Ghosts}
 use Rattle.tv_formats.specs.Commits.{Commit}
 use Rattle.tv_formats.specs.Files.{Rose, RoseBy}
 use Rattle.tv_formats.specs.Names.{meta_name}
@@ -16,7 +16,7 @@ use Rattle.tv_machine.specs.Readable.{CanRead}
 use Rattle.tv_machine.specs.SoundStates.{IsWhole}
 use Rattle.tv_machine.specs.State.{State}
 use Rattle.tv_managed.specs.Collecting.{meta_lock_name}
-use Rattle.tv_store.specs.Actions.{AppendsSome, MayGive, MayNoteBy, OnlyKeeps, SpentBy, Suits, LocksMeta, added_by, after, given_by, reply_in}
+use Rattle.tv_store.specs.Actions.{AppendsSome, MayGive, MayNoteBy, OnlyKeeps, SavesNoCommit, SpentBy, Suits, LocksMeta, TriesDeletes, added_by, after, given_by, reply_in}
 use Rattle.tv_store.specs.Applying.{LeavesAlone, LeavesCommit, SavesPrinted, UnloadedFor}
 use Rattle.tv_store.specs.Bodies.{MeetsBadFile}
 use Rattle.tv_store.specs.Kept.{FilesState, Holds, kept_of}
@@ -81,9 +81,11 @@ pub record Performed {O W C : Type 0} (g : Ghosts O W C) (action : Action) (old 
       → SavesPrinted old.form (g.view old.outside) (g.view new.outside) commit
 
 -- What performing an action leaves of the directory: writers go on, nothing was told, the room for a line
--- didn't shrink, no lock was taken or freed, and nobody was registered or called; a notice comes by a save.
+-- didn't shrink, no lock was taken or freed, and nobody was registered or called. Unless it tries to delete
+-- files, no writer lost its file, and no delete was refused. A notice comes by a save.
 pub record KeepsBy {W : Type 0} (told : Told) (action : Action) (old new : View W) : Type 0 where
   pub goes_on : GoesOn told old new
+  pub deletes_none : (TriesDeletes action → ⊥) → DeletesNone told old new
   pub heard : new.heard ≡ old.heard
   pub room : old.room ≤ new.room
   pub locks : told.locks → SameLocks old.locks new.locks
@@ -106,17 +108,43 @@ FailsBy g other old new result = IfErr result (LockingCause
     (Rose (g.view old.outside).faults (g.view new.outside).faults)
     ((g.view new.outside).faults ≡ (g.view old.outside).faults) (SpentBy old.collections other))
 
+-- When an action fails: at Ok the device refused no call but deletes, the lock that the action takes was
+-- free, and what it may spend wasn't spent; and why it failed.
+pub record FaultsBy {O W C : Type 0} (g : Ghosts O W C) (action : Action) (old new : FilesState O)
+    (result : Result Reply TantivyError) : Type 0 where
+  pub quiet : OnOk result ((g.view new.outside).faults ≡ (g.view old.outside).faults)
+  pub free : g.told.locks → LocksMeta action
+      → OnOk result ((g.view old.outside).locks meta_lock_name ≡ false)
+  pub fits : OnOk result (SpentBy old.collections action → ⊥)
+  pub cause : FailsBy g action old new result
+
 -- no commit was saved
 abbrev pub SavedNone : Reply → Type 0
 SavedNone (replies.Saved commit) = ⊥
 SavedNone other = Unit {0}
 
+-- What stands in `meta.json`: an action that saves no commit leaves it, whatever comes of it. An error leaves
+-- the commit before, or, where a call was refused, the one that the action saves; want of memory leaves what
+-- was read before, and so does a reply that tells of no commit which was saved.
+pub record MetaBy {O W C : Type 0} (g : Ghosts O W C) (action : Action) (old new : FilesState O)
+    (result : Result Reply TantivyError) : Type 0 where
+  pub unsaved : SavesNoCommit action → g.told.content
+      → (g.view new.outside).reads meta_name ≡ (g.view old.outside).reads meta_name
+  pub failed : g.told.content → (s : State) → FilesHold g old s → IsWhole s → Suits s action
+      → (deletes : List Bool)
+      → OnErr result (LeavesCommit (Rose (g.view old.outside).faults (g.view new.outside).faults)
+      ((g.view old.outside).reads meta_name) ((g.view new.outside).reads meta_name) old.form
+      (after s action (reply_in s action deletes)).catalog.commit)
+  pub memory : g.told.content → IfErr result (λ error. error ≡ errors.Memory
+      → (g.view new.outside).reads meta_name ≡ (g.view old.outside).reads meta_name)
+  pub spared : g.told.content → IfOk result (λ reply. SavedNone reply
+      → (g.view new.outside).reads meta_name ≡ (g.view old.outside).reads meta_name)
+
 -- An action was performed, with some outcomes of its deletes, of which no more were refused than their count
--- rose: what came of it, from each whole state that was held and that suits it. An error leaves the commit
--- before, or, where a call was refused, the one that the action saves; want of memory the one before. No
--- file with a dot in front was changed but the list; no open file is longer than the longest was and what
--- is added, and the number that the next collection gets is no higher than what was and what the action
--- gives; why it failed; and what it kept.
+-- rose: what came of it, from each whole state that was held and that suits it. What it leaves in
+-- `meta.json`. No file with a dot in front was changed but the list; no open file is longer than the longest
+-- was and what is added, and the number that the next collection gets is no higher than what was and what the
+-- action gives; when it fails; and what it kept.
 pub record Performs {O W C : Type 0} (g : Ghosts O W C) (action : Action) (old new : FilesState O)
     (result : Result Reply TantivyError) : Type 0 where
   pub gives : IfOk result (MayGive old.collections old.managed action)
@@ -126,22 +154,10 @@ pub record Performs {O W C : Type 0} (g : Ghosts O W C) (action : Action) (old n
       → Performed g action old new (s, deletes) reply))
   pub alone : OnlyKeeps action → g.told.content
       → LeavesAlone (g.view old.outside) (g.view new.outside)
-  pub meta : g.told.content → (s : State) → FilesHold g old s → IsWhole s → Suits s action
-      → (deletes : List Bool)
-      → OnErr result (LeavesCommit (Rose (g.view old.outside).faults (g.view new.outside).faults)
-      ((g.view old.outside).reads meta_name) ((g.view new.outside).reads meta_name) old.form
-      (after s action (reply_in s action deletes)).catalog.commit)
-  pub memory : g.told.content → IfErr result (λ error. error ≡ errors.Memory
-      → (g.view new.outside).reads meta_name ≡ (g.view old.outside).reads meta_name)
-  pub spared : g.told.content → IfOk result (λ reply. SavedNone reply
-      → (g.view new.outside).reads meta_name ≡ (g.view old.outside).reads meta_name)
+  pub meta : MetaBy g action old new result
   pub dotted : g.told.content → KeepsDotted (g.view old.outside).reads (g.view new.outside).reads
   pub lens : (bound : ℕ) → Short bound old.open_files → Short (bound + added_by action) new.open_files
   pub numbers : OnOk result (new.collections.next ≤ old.collections.next + given_by action)
-  pub quiet : OnOk result ((g.view new.outside).faults ≡ (g.view old.outside).faults)
-  pub free : g.told.locks → LocksMeta action
-      → OnOk result ((g.view old.outside).locks meta_lock_name ≡ false)
-  pub fits : OnOk result (SpentBy old.collections action → ⊥)
-  pub cause : FailsBy g action old new result
+  pub faults : FaultsBy g action old new result
   pub form : new.form ≡ old.form
   pub frame : KeepsBy g.told action (g.view old.outside) (g.view new.outside)

@@ -3,7 +3,7 @@ use Rattle.std.specs.Prelude.{ℕ, ◌≡◌, ◌≤◌, ◌<◌, ◌+◌, ◌�
 use Rattle.std.specs.List.{AllByRecursion}
 use Rattle.tv_base.specs.declared.error.TantivyError.{TantivyError}
 use Rattle.tv_base.specs.declared.error.TantivyError.TheVariants as errors
-use Rattle.tv_directory.specs.Watch.{WatchState}
+use Rattle.tv_device.specs.Watch.{WatchState}
 use Rattle.tv_formats.specs.Collections.{collection_at}
 use Rattle.tv_formats.specs.Commits.{Commit, IsSegment}
 use Rattle.tv_formats.specs.Files.{has_no_feed}

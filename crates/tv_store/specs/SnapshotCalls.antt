@@ -1,7 +1,7 @@
 -- Why the calls fail that load a commit with its files, and what they show.
 use Rattle.std.specs.Prelude.{◌≡◌, List, ℕ, Result, IfErr, OnOk}
 use Rattle.tv_base.specs.declared.error.TantivyError.{TantivyError}
-use Rattle.tv_directory.specs.declared.directory.Directory.{Ghosts}
+use Rattle.tv_device.specs.declared.directory.Directory.{Ghosts}
 use Rattle.tv_formats.specs.Files.{Rose}
 use Rattle.tv_formats.specs.Names.{meta_name}
 use Rattle.tv_index.specs.Indexes.{MeansSuch}

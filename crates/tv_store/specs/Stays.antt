@@ -4,9 +4,9 @@ use Rattle.tv_formats.specs.Files.{Reads, Rose}
 use Rattle.tv_formats.specs.Listing.{IsListFile}
 use Rattle.tv_formats.specs.Names.{is_undotted, meta_name}
 use Rattle.tv_base.specs.declared.error.TantivyError.{TantivyError}
-use Rattle.tv_directory.specs.View.{View, Told, DeletesNone, Kept, OnlyReads}
-use Rattle.tv_directory.specs.declared.directory.Directory.{Ghosts}
-use Rattle.tv_directory.specs.Watch.{MayNote}
+use Rattle.tv_device.specs.View.{View, Told, DeletesNone, Kept, OnlyReads}
+use Rattle.tv_device.specs.declared.directory.Directory.{Ghosts}
+use Rattle.tv_device.specs.Watch.{MayNote}
 use Rattle.tv_store.specs.Kept.{FilesState, StoreState}
 use Rattle.tv_store.specs.StoreCauses.{EventCause, MakesNoFile}
 

@@ -5,7 +5,7 @@ use Rattle.tv_base.specs.declared.open_errors.OpenWriteError.TheVariants as writ
 use Rattle.tv_base.specs.declared.open_errors.OpenWriteError.{OpenWriteError}
 use Rattle.tv_base.specs.declared.error.TantivyError.{TantivyError}
 use Rattle.tv_base.specs.declared.error.TantivyError.TheVariants as errors
-use Rattle.tv_directory.specs.Locks.{LockCause}
+use Rattle.tv_device.specs.Locks.{LockCause}
 use Rattle.tv_formats.specs.Files.{Rose, RoseBy}
 
 -- a file that was to be made was refused by the device

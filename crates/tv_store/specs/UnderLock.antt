@@ -5,9 +5,9 @@ use Rattle.tv_base.specs.declared.error.TantivyError.{TantivyError}
 use Rattle.tv_base.specs.declared.error.TantivyError.TheVariants as errors
 use Rattle.tv_base.specs.declared.open_errors.LockError.{LockError}
 use Rattle.tv_base.specs.declared.open_errors.LockError.TheVariants as lock
-use Rattle.tv_directory.specs.Locks.{SameLocks, TakesLock}
-use Rattle.tv_directory.specs.View.{OnlyLocks, OnlyReads}
-use Rattle.tv_directory.specs.declared.directory.Directory.{Ghosts}
+use Rattle.tv_device.specs.Locks.{SameLocks, TakesLock}
+use Rattle.tv_device.specs.View.{OnlyLocks, OnlyReads}
+use Rattle.tv_device.specs.declared.directory.Directory.{Ghosts}
 use Rattle.tv_index.specs.Crashes.{LacksMeta, MayMake, OnlyLooks}
 use Rattle.tv_index.specs.Openable.{IsOpenable}
 use Rattle.tv_index.specs.Opening.{Finds, LeavesFound, NotesNone, OpenCause, first_text}

@@ -7,7 +7,7 @@ ghost use Rattle.tv_store.specs.Stays.{AsksQuietly, AsksOrFails};
 use crate::index_store::IndexStore;
 use std::alloc::Global;
 use tv_base::TantivyError;
-use tv_directory::Outside;
+use tv_device::Outside;
 use tv_formats::Memory;
 use tv_machine::Answer;
 

@@ -1,10 +1,11 @@
 //! What is known of an index without asking its directory.
-ghost use Rattle.std.specs.Prelude.{◌≡◌, ◌<◌, ◌+◌, List, ℕ, IfErr, IfOk, IsSome, None, OnOk, option_map, map, string_bytes, Some, true};
+ghost use Rattle.std.specs.Prelude.{◌≡◌, ◌<◌, ◌+◌, ◌||◌, List, ℕ, IfErr, IfOk, IsSome, None, OnErr, OnOk, option_map, map, string_bytes, Some, true};
 ghost use Rattle.std.specs.List.{AllByRecursion, list_all};
-ghost use Rattle.tv_machine.specs.CollectionEvents.{without_live};
 ghost use Rattle.tv_machine.specs.CommitEvents.{chosen, first_unknown, last_stamp};
 ghost use Rattle.tv_machine.specs.Living.{living};
-ghost use Rattle.tv_formats.specs.Names.{has, is_plain};
+ghost use Rattle.tv_machine.specs.DeleteEvents.{is_committed_delete, next_deletes, with_deletes};
+ghost use Rattle.tv_machine.specs.Index.{as_opened};
+ghost use Rattle.tv_formats.specs.Names.{at, has, is_plain};
 ghost use Rattle.tv_machine.specs.ReaderEvents.{with_new_reader, with_reloaded};
 ghost use Rattle.tv_machine.specs.ReportEvents.{committed_names};
 ghost use Rattle.tv_formats.specs.Commits.{Commit as CommitState, IsSegment};
@@ -16,14 +17,15 @@ ghost use Rattle.tv_machine.specs.State.{Reader as ReaderState, live_at, no_read
 use crate::action::{Change, Reply};
 use crate::chosen::choose;
 use crate::commit::{Commit, listed};
-use crate::names::{names_among, needed_names};
+use crate::names::{file_of, names_among, needed_names};
+use crate::opening::next_after;
 use crate::readers::Readers;
 use crate::snapshot::Snapshot;
 use std::alloc::Global;
 use std::collections::{BTreeMap, BTreeSet};
 use std::marker::Model;
-use tv_formats::{FileName, LiveSegment, Memory, Opstamp, SegmentId};
-use tv_index::naming::shared_names;
+use tv_formats::{DeleteMeta, FileName, LiveSegment, Memory, Opstamp, SegmentComponent, SegmentId};
+use tv_index::naming::{has_name, shared_names};
 use tv_machine::ReloadPolicy;
 
 /// The live segments, the number that the next commit gets, the current commit, and who reads.
@@ -103,16 +105,40 @@ impl Catalog {
         self.next += 1;
     }
 
+    // So many documents of a live segment are deleted, and the next stamp is drawn for them.
+    fn set_deletes(&mut self, id: SegmentId, segment: LiveSegment, n: u32) -> Result<(), Memory>
+        requires { self.old.next < last_stamp }
+        ensures deletes { OnOk result (self.new ≡ with_deletes self.old id segment n) }
+        ensures kept { OnErr result (self.new ≡ self.old) }
+    {
+        let deletes = Some(self.next_deletes(n));
+        self.live.insert(id, LiveSegment { deletes, ..segment })?;
+        self.next += 1;
+        Ok(())
+    }
+
+    // The catalog is what an opening makes of it, where these are the segments of the current commit.
+    // Takes no memory.
+    fn reopen(&mut self, segments: BTreeMap<SegmentId, LiveSegment>)
+        requires { segments.entries ≡ self.old.commit.segments }
+        ensures { self.new ≡ as_opened self.old }
+    {
+        self.live = segments;
+        self.next = next_after(self.commit.opstamp());
+        self.readers = Readers::new(self.alloc);
+    }
+
     // Makes a change, where nothing was loaded. Only deletes take memory.
     fn change(&mut self, change: Change) -> Result<(), Memory>
         requires { CanChange self.old change }
         ensures changed { OnOk result (self.new ≡ catalog_after self.old change None) }
+        ensures kept { OnErr result (self.new ≡ self.old) }
     {
         match change {
             Change::Nothing => Ok(()),
             Change::Deletes(id, segment, n) => self.set_deletes(id, segment, n),
             Change::Release(id) => {
-                self.remove(id);
+                self.live.remove(&id);
                 Ok(())
             }
             Change::Reopen(segments) => {
@@ -127,6 +153,7 @@ impl Catalog {
     fn change_with(&mut self, change: Change, shown: Snapshot) -> Result<(), Memory>
         requires { CanChange self.old change }
         ensures changed { OnOk result (self.new ≡ catalog_after self.old change (Some shown)) }
+        ensures kept { OnErr result (self.new ≡ self.old) }
     {
         match change {
             Change::AddReader(policy) => self.add_reader(policy, shown),
@@ -136,7 +163,8 @@ impl Catalog {
     }
 
     /// What is known beside the files once this came of an action: a commit that was saved is the current
-    /// one, else the change is made. Nothing takes memory after a save.
+    /// one, else the change is made. Nothing takes memory after a save; where memory is wanted, all that is
+    /// known stays.
     pub(crate) fn settle(&mut self, change: Change, reply: Reply) -> Result<(), Memory>
         requires change { CanChange self.old change }
         requires next { (commit : CommitState) → reply ≡ replies.Saved commit
@@ -144,6 +172,7 @@ impl Catalog {
         ensures settled { OnOk result (self.new ≡ settled self.old change reply) }
         ensures saved { (commit : CommitState) → reply ≡ replies.Saved commit
             → IfErr result (λ error. ⊥) }
+        ensures kept { OnErr result (self.new ≡ self.old) }
     {
         match reply {
             Reply::Saved(commit) => {
@@ -155,11 +184,50 @@ impl Catalog {
         }
     }
 
-    /// The segment of this id is live no more. Takes no memory.
-    pub(crate) fn remove(&mut self, id: SegmentId)
-        ensures { self.new ≡ without_live self.old id }
+    /// The deletes of a segment that has so many deleted documents from now on. Takes no memory.
+    pub(crate) fn next_deletes(&self, num_deleted_docs: u32) -> DeleteMeta
+        ensures { result ≡ next_deletes self.now num_deleted_docs }
     {
-        self.live.remove(&id);
+        DeleteMeta {
+            num_deleted_docs,
+            opstamp: self.next,
+        }
+    }
+
+    // Whether this is the name of the segment's delete file in the current commit.
+    fn is_committed_delete(&self, id: SegmentId, name: &FileName) -> Result<bool, Memory>
+        ensures { IfOk result (λ is. is
+            ≡ is_committed_delete (at self.now.commit.segments id) id name.now) }
+    {
+        let Some(segment) = self.commit.segment(id) else {
+            return Ok(false);
+        };
+        let committed = file_of(self.alloc, id, segment.deletes, SegmentComponent::Delete)?;
+        Ok(committed == *name)
+    }
+
+    /// Whether the name is managed, or that of the segment's delete file in the current commit.
+    pub(crate) fn is_name_in_use(
+        &self,
+        managed: &BTreeSet<String>,
+        id: SegmentId,
+        name: &FileName,
+    ) -> Result<bool, Memory>
+        ensures { IfOk result (λ taken. taken ≡ (has (map string_bytes managed.now.keys) name.now
+            || is_committed_delete (at self.now.commit.segments id) id name.now)) }
+    {
+        if has_name(managed, name.as_str()) {
+            return Ok(true);
+        }
+        self.is_committed_delete(id, name)
+    }
+
+    /// A copy of the segments of the current commit, by their ids.
+    pub(crate) fn committed(&self) -> Result<BTreeMap<SegmentId, LiveSegment>, Memory>
+        ensures { IfOk result (λ segments. segments.entries ≡ self.now.commit.segments) }
+    {
+        let segments = self.commit.by_id().clone()?;
+        Ok(segments)
     }
 
     /// The named live segments that have living documents, or the first name that isn't live.
@@ -213,7 +281,8 @@ impl Catalog {
     /// A new reader, which shows this snapshot.
     pub(crate) fn add_reader(&mut self, policy: ReloadPolicy, shown: Snapshot) -> Result<(), Memory>
         requires { self.old.reading.next_reader < last_stamp }
-        ensures { OnOk result (self.new ≡ with_new_reader self.old policy shown) }
+        ensures added { OnOk result (self.new ≡ with_new_reader self.old policy shown) }
+        ensures kept { OnErr result (self.new ≡ self.old) }
     {
         self.readers.add_reader(policy, shown)
     }
@@ -230,8 +299,9 @@ impl Catalog {
         requires there { IsSome (reader_at self.old number) }
         requires room { (reader : ReaderState) → reader_at self.old number ≡ Some reader
             → reader.next < last_stamp }
-        ensures { (reader : ReaderState) → reader_at self.old number ≡ Some reader
+        ensures published { (reader : ReaderState) → reader_at self.old number ≡ Some reader
             → OnOk result (self.new ≡ with_reloaded self.old number reader shown) }
+        ensures kept { OnErr result (self.new ≡ self.old) }
     {
         self.readers.publish(number, shown)
     }

@@ -3,7 +3,7 @@ ghost use Rattle.std.specs.Prelude.{◌≡◌, ◌<◌, ◌^◌, ◌++◌, [], �
 ghost use Rattle.std.specs.Option.{option_copied};
 ghost use Rattle.tv_formats.specs.Commits.{printed};
 ghost use Rattle.tv_formats.specs.Names.{at};
-ghost use Rattle.tv_index.specs.Settings.{settings_view};
+ghost use Rattle.tv_metas.specs.Settings.{settings_view};
 
 use std::alloc::Global;
 use std::collections::BTreeMap;

@@ -5,7 +5,7 @@ ghost use Rattle.tv_formats.specs.Names.{has, is_plain, meta_name, at};
 ghost use Rattle.tv_formats.specs.Collections.{Collection, collectable, collection_at, held};
 ghost use Rattle.tv_formats.specs.Files.{Same};
 ghost use Rattle.tv_formats.specs.Listing.{IsListFile, Listing};
-ghost use Rattle.tv_directory.specs.View.{Kept, MayDelete, OnlyReads};
+ghost use Rattle.tv_device.specs.View.{Kept, MayDelete, OnlyReads};
 ghost use Rattle.tv_managed.specs.Collecting.{texts_of};
 ghost use Rattle.tv_store.specs.CollectingCalls.{BeginsCollection, FinishesCollection, HasUntried, KeepsUncollected, KeepsUnlisted, TriesNext};
 ghost use Rattle.tv_store.specs.Effects.{collection_after};
@@ -20,7 +20,7 @@ use std::collections::{BTreeMap, BTreeSet};
 use std::marker::Model;
 use std::mem;
 use tv_base::TantivyError;
-use tv_directory::Outside;
+use tv_device::Outside;
 use tv_formats::{FileName, Memory};
 use tv_managed::CollectStep;
 

@@ -1,10 +1,10 @@
 //! An index that is open, under the lock of the one who writes it.
-ghost use Rattle.std.specs.Prelude.{◌≡◌, ◌<◌, is_ok, None, true, length, IfOk, IfErr, IsSome};
+ghost use Rattle.std.specs.Prelude.{◌≡◌, ◌<◌, is_ok, None, true, length, IfOk, IfErr, IsSome, OnErr};
 ghost use Rattle.tv_machine.specs.Machine.{catalog_step};
 ghost use Rattle.tv_machine.specs.State.{State};
-ghost use Rattle.tv_directory.specs.Calls.{DeviceFaults, Frees};
-ghost use Rattle.tv_directory.specs.Images.{KeepsDisk};
-ghost use Rattle.tv_directory.specs.View.{OnlyReads, OnlyTells};
+ghost use Rattle.tv_device.specs.Calls.{DeviceFaults, Frees};
+ghost use Rattle.tv_device.specs.Images.{KeepsDisk};
+ghost use Rattle.tv_device.specs.View.{OnlyReads, OnlyTells};
 ghost use Rattle.tv_store.specs.Acting.{Acts};
 ghost use Rattle.tv_store.specs.Applying.{Stepped, LeavesMeta, Grows, ApplyFaults, AppliesFrame, AsksNoFile, IsUndisturbedEvent};
 ghost use Rattle.tv_store.specs.Kept.{Holds, IsHeld};
@@ -21,7 +21,7 @@ use crate::plan::{Planned, plan};
 use std::alloc::Global;
 use std::marker::Model;
 use tv_base::{IoFault, TantivyError};
-use tv_directory::{DirectoryLock, Outside};
+use tv_device::{DirectoryLock, Outside};
 use tv_machine::{Answer, Event};
 use tv_managed::Refused;
 
@@ -152,7 +152,9 @@ impl<O: Outside> IndexStore<O> {
     // An event is planned, its action performed, and answered in room that was made before.
     fn act_by_plan(&mut self, event: &Event) -> Result<Answer, TantivyError>
         requires { catalog_step self.old.kept.catalog self.old.kept.managed event.now ≡ None }
-        ensures { Acts O.Directory self.old self.new event.now result }
+        ensures acts { Acts O.Directory self.old self.new event.now result }
+        // An error leaves all that is known beside the files, so too what each reader shows.
+        ensures known { OnErr result (self.new.kept.catalog ≡ self.old.kept.catalog) }
     {
         let Planned {
             action,

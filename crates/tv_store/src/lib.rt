@@ -12,7 +12,6 @@ mod catalog;
 mod catalog_events;
 mod chosen;
 mod commit;
-mod delete_events;
 mod files;
 mod files_collecting;
 mod index_store;
@@ -29,7 +28,6 @@ mod plan_readers;
 mod plan_reports;
 mod plan_segments;
 mod readers;
-mod reopen_events;
 mod snapshot;
 
 pub use index_store::IndexStore;

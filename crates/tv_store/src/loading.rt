@@ -1,8 +1,8 @@
 //! The current commit is loaded, with the bodies of its files.
 ghost use Rattle.std.specs.Prelude.{◌≡◌, map, IfOk, OnOk};
-ghost use Rattle.tv_directory.specs.View.{OnlyReads};
+ghost use Rattle.tv_device.specs.View.{OnlyReads};
 ghost use Rattle.tv_formats.specs.Segments.{all_required, required_names};
-ghost use Rattle.tv_index.specs.Segments.{entry_of};
+ghost use Rattle.tv_metas.specs.Segments.{entry_of};
 ghost use Rattle.tv_machine.specs.Readable.{CanRead};
 ghost use Rattle.tv_machine.specs.ReaderEvents.{snapshot_in};
 ghost use Rattle.tv_machine.specs.SoundStates.{IsWhole};
@@ -18,7 +18,7 @@ use crate::names::required_of;
 use crate::snapshot::{SegmentReader, Snapshot};
 use std::alloc::Global;
 use tv_base::{FileSlice, TantivyError};
-use tv_directory::{Outside, meta_lock};
+use tv_device::{Outside, meta_lock};
 use tv_formats::{FileName, LiveSegment, SegmentId};
 use tv_index::InnerSegmentMeta;
 

@@ -5,10 +5,10 @@ ghost use Rattle.std.specs.List.{AllByRecursion};
 ghost use Rattle.tv_formats.specs.Commits.{IsCommit};
 ghost use Rattle.tv_machine.specs.Index.{IsFileOf, as_opened, next_after};
 ghost use Rattle.tv_machine.specs.Lines.{opening_of};
-ghost use Rattle.tv_directory.specs.Calls.{DeviceFaults};
-ghost use Rattle.tv_directory.specs.Images.{KeepsDisk};
-ghost use Rattle.tv_directory.specs.View.{OnlyTells};
-ghost use Rattle.tv_index.specs.Segments.{entry_of};
+ghost use Rattle.tv_device.specs.Calls.{DeviceFaults};
+ghost use Rattle.tv_device.specs.Images.{KeepsDisk};
+ghost use Rattle.tv_device.specs.View.{OnlyTells};
+ghost use Rattle.tv_metas.specs.Segments.{entry_of};
 ghost use Rattle.tv_store.specs.Making.{OpensCommit, ChecksFiles, FindsFiles, FindsNone, GivesBack, IsSorted};
 ghost use Rattle.tv_store.specs.Stays.{KeepsFiles};
 ghost use Rattle.tv_store.specs.StoreCauses.{writer_lock_name};
@@ -22,7 +22,7 @@ use crate::names::required_files;
 use std::alloc::Global;
 use std::collections::BTreeMap;
 use tv_base::{IoFault, LockError, TantivyError};
-use tv_directory::{DirectoryLock, Outside, index_writer_lock};
+use tv_device::{DirectoryLock, Outside, index_writer_lock};
 use tv_formats::{FileName, LiveSegment, Memory, Opstamp, SegmentId};
 use tv_index::{
     Index, InnerSegmentMeta, Schema, UntrackedIndexMeta, check_openable, open_or_create,

@@ -1,7 +1,7 @@
 //! Actions are performed: every call on the files that a planned event makes.
 ghost use Rattle.std.specs.Prelude.{◌≡◌, ◌≤◌, true, if◌then◌else◌, length, map, string_bytes, [], vec_len, vec_capacity, IfOk, IfSome, IsSome};
 ghost use Rattle.std.specs.List.{AllByRecursion};
-ghost use Rattle.tv_directory.specs.View.{OnlyReads};
+ghost use Rattle.tv_device.specs.View.{OnlyReads};
 ghost use Rattle.tv_formats.specs.Collections.{collection_at};
 ghost use Rattle.tv_formats.specs.Names.{at, has, meta_name};
 ghost use Rattle.tv_machine.specs.Index.{IsFileOf};
@@ -21,7 +21,7 @@ use crate::loading::load;
 use std::alloc::Global;
 use std::collections::BTreeSet;
 use tv_base::TantivyError;
-use tv_directory::Outside;
+use tv_device::Outside;
 use tv_formats::FileName;
 use tv_machine::Blob;
 

@@ -23,7 +23,7 @@ use crate::plan_reports::plan_validate;
 use crate::plan_segments::{plan_deletes, plan_release, plan_reopen};
 use std::alloc::Global;
 use tv_base::TantivyError;
-use tv_directory::Outside;
+use tv_device::Outside;
 use tv_formats::{FileName, LiveSegment, Memory, SegmentComponent, SegmentId};
 use tv_machine::{Answer, Blob, Event};
 

@@ -15,7 +15,7 @@ use crate::plan::{Planned, refusal, with_room};
 use std::alloc::Global;
 use std::collections::BTreeSet;
 use tv_base::TantivyError;
-use tv_directory::Outside;
+use tv_device::Outside;
 use tv_formats::Memory;
 use tv_machine::Answer;
 

@@ -1,10 +1,12 @@
 //! What is to be done for a commit.
 ghost use Rattle.std.specs.Prelude.{◌≡◌, ◌<◌, [], ◌∷◌, List, None, ℕ, codes, true, IfErr, IfOk, IfSome};
+ghost use Rattle.std.specs.BTreeMap.{IsOrdered};
 ghost use Rattle.std.specs.List.{AllByRecursion};
 ghost use Rattle.std.specs.Fmt.{decimal};
 ghost use Rattle.std.specs.Str.{IsUtf8};
 ghost use Rattle.tv_formats.specs.Commits.{IsCommit, IsSegment};
 ghost use Rattle.tv_formats.specs.Files.{has_no_feed};
+ghost use Rattle.tv_formats.specs.Names.{byte_cmp};
 ghost use Rattle.tv_machine.specs.CommitEvents.{chosen, first_unknown, last_stamp};
 ghost use Rattle.tv_machine.specs.Lines.{line};
 ghost use Rattle.tv_machine.specs.declared.event.Event.TheVariants as events;
@@ -24,7 +26,7 @@ use crate::plan::{Planned, refusal, with_room};
 use std::alloc::Global;
 use std::collections::BTreeMap;
 use tv_base::TantivyError;
-use tv_directory::Outside;
+use tv_device::Outside;
 use tv_formats::{LiveSegment, Memory, Opstamp, SegmentId};
 use tv_machine::{Answer, IdList, Text};
 
@@ -45,7 +47,7 @@ fn copied(alloc: Global, payload: &Option<Text>) -> Result<Option<Text>, Memory>
 }
 
 // The answer to a commit of this many segments.
-pub(crate) fn commit_answer(alloc: Global, opstamp: Opstamp, count: usize) -> Result<Answer, Memory>
+fn commit_answer(alloc: Global, opstamp: Opstamp, count: usize) -> Result<Answer, Memory>
     ensures { IfOk result (λ answer. answer ≡ line (codes "commit")
         (decimal opstamp ∷ decimal count ∷ [])) }
 {
@@ -55,7 +57,7 @@ pub(crate) fn commit_answer(alloc: Global, opstamp: Opstamp, count: usize) -> Re
 }
 
 // The refusal of an id that isn't live.
-pub(crate) fn unknown(alloc: Global, id: SegmentId) -> Result<Answer, Memory>
+fn unknown(alloc: Global, id: SegmentId) -> Result<Answer, Memory>
     ensures { IfOk result (λ answer. answer ≡ unknown_line id) }
 {
     refused(alloc, "unknown-segment")?.id(id)
@@ -77,7 +79,7 @@ fn refuse_unknown<'a>(alloc: Global, id: SegmentId) -> Result<Planned<'a>, Memor
 }
 
 // A commit of these segments, with a copy of the payload.
-pub(crate) fn new_commit(
+fn new_commit(
     alloc: Global,
     opstamp: Opstamp,
     payload: &Option<Text>,
@@ -85,10 +87,9 @@ pub(crate) fn new_commit(
 ) -> Result<Commit, Memory>
     ensures commit { IfOk result (λ commit. commit
         ≡ record { opstamp = opstamp; payload = payload.now; segments = segments.entries }) }
-    ensures sound { AllByRecursion IsSegment segments.entries → IfOk result IsCommit }
+    ensures sound { IsOrdered byte_cmp segments → AllByRecursion IsSegment segments.entries
+        → IfOk result IsCommit }
 {
-    // A contract learns from the length that the ids stand in their order.
-    let _count = segments.len();
     let payload = copied(alloc, payload)?;
     Ok(Commit::new(opstamp, payload, segments))
 }
@@ -108,10 +109,11 @@ fn plan_save<'a, O: Outside>(
         → IfOk result (Plans (kept_of catalog.now files.now)
         (events.Commit payload.now ids)) }
 {
+    let count = segments.len();
     let commit = new_commit(alloc, catalog.next_opstamp(), payload, segments)?;
     let text = commit.print(alloc, files.settings(), files.schema())?;
     let required = required_files(alloc, commit.by_id())?;
-    let answer = commit_answer(alloc, commit.opstamp(), commit.len())?;
+    let answer = commit_answer(alloc, commit.opstamp(), count)?;
     let line = with_room(answer, REFUSAL_ROOM)?;
     Ok(Planned {
         action: Action::Save(commit, text, required),

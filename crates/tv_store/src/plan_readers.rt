@@ -13,7 +13,7 @@ use crate::files::StoreFiles;
 use crate::plan::{Planned, refusal};
 use std::alloc::Global;
 use tv_base::TantivyError;
-use tv_directory::Outside;
+use tv_device::Outside;
 use tv_formats::{Memory, Opstamp};
 use tv_machine::{Answer, ReloadPolicy};
 

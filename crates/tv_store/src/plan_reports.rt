@@ -11,7 +11,7 @@ use crate::files::StoreFiles;
 use crate::plan::Planned;
 use std::alloc::Global;
 use tv_base::TantivyError;
-use tv_directory::Outside;
+use tv_device::Outside;
 use tv_formats::{FileName, Memory};
 
 // How long the words are of the refusal of a file that can't be read, which are longer than `damaged`.

@@ -1,21 +1,50 @@
 //! What is to be done for the events that change which segments are live, or which of their documents.
-ghost use Rattle.std.specs.Prelude.{◌≡◌, codes, IfErr, IfOk};
+ghost use Rattle.std.specs.Prelude.{◌≡◌, [], ◌∷◌, codes, IfErr, IfOk};
+ghost use Rattle.std.specs.Fmt.{decimal};
+ghost use Rattle.hex.specs.Hex.{encode_lower};
+ghost use Rattle.tv_machine.specs.DeleteEvents.{delete_name};
+ghost use Rattle.tv_machine.specs.Lines.{line};
 ghost use Rattle.tv_machine.specs.declared.event.Event.TheVariants as events;
 ghost use Rattle.tv_store.specs.Kept.{kept_of};
 ghost use Rattle.tv_store.specs.Plans.{Plans, PlanCause};
 
 use crate::action::{Action, Change};
 use crate::catalog::Catalog;
-use crate::delete_events::{deletes_line, former_name};
 use crate::files::StoreFiles;
 use crate::names::{file_of, names_of};
 use crate::opening::opening_line;
 use crate::plan::{Planned, refusal};
 use std::alloc::Global;
 use tv_base::TantivyError;
-use tv_directory::Outside;
-use tv_formats::{Memory, Opstamp, SegmentComponent, SegmentId};
+use tv_device::Outside;
+use tv_formats::{FileName, LiveSegment, Memory, Opstamp, SegmentComponent, SegmentId};
 use tv_machine::Answer;
+
+// The line of the deletes of a segment.
+fn deletes_line(
+    alloc: Global,
+    id: SegmentId,
+    num_deleted_docs: u32,
+    opstamp: Opstamp,
+) -> Result<Answer, Memory>
+    ensures { IfOk result (λ answer. answer ≡ line (codes "deletes")
+        (encode_lower id ∷ decimal num_deleted_docs ∷ decimal opstamp ∷ [])) }
+{
+    Answer::new(alloc, "deletes")?
+        .id(id)?
+        .number(u64::from(num_deleted_docs))?
+        .number(opstamp)
+}
+
+// The name of a segment's delete file, alone.
+fn former_name(alloc: Global, id: SegmentId, segment: LiveSegment) -> Result<Vec<FileName>, Memory>
+    ensures { IfOk result (λ names. names.items ≡ delete_name id segment.deletes ∷ []) }
+{
+    let name = file_of(alloc, id, segment.deletes, SegmentComponent::Delete)?;
+    let mut names = Vec::new(alloc);
+    names.push(name)?;
+    Ok(names)
+}
 
 // The line of a segment that is live no more.
 fn released_line(alloc: Global) -> Result<Answer, Memory>

@@ -83,13 +83,16 @@ const NOTHING_TO_DELETE: &[Step] = &[
 // The sync before the deletes is refused.
 const FAILS_BEFORE: &[Step] = &[
     Step::Collect(&[], REFUSED),
+    Step::Number("0"),
     Step::Names(r#"{"a.idx", "b.idx", "c.idx", "d.idx"}"#),
     Step::On(Call::Exists, "a.idx", "", "Ok(true)"),
 ];
 
-// The sync after the deletes is refused, before the list is written.
+// The sync after the deletes is refused, before the list is written. The collection isn't finished, and keeps its
+// number.
 const FAILS_AFTER: &[Step] = &[
     Step::Collect(&[], REFUSED),
+    Step::Number("1"),
     Step::Names(r#"{"a.idx", "b.idx", "c.idx", "d.idx"}"#),
     Step::List("[\"a.idx\",\"b.idx\",\"c.idx\",\"d.idx\"]\n"),
     Step::On(Call::Exists, "a.idx", "", "Ok(false)"),
@@ -181,6 +184,56 @@ const REFUSED_STEPS: &[Step] = &[
     Step::On(Call::Seal, "d.idx", "", "Ok(())"),
 ];
 
+// Behind these four: what a collection takes that begins now.
+const FORETOLD: &[Step] = &[
+    Step::Spare(&[], r#"Ok(["a.idx", "b.idx", "c.idx", "d.idx"])"#),
+    Step::Spare(&["a.idx", "b.idx", "c.idx", "d.idx", "other"], "Ok([])"),
+    Step::Spare(&["b.idx", "c.idx"], r#"Ok(["a.idx", "d.idx"])"#),
+    Step::Begin(&["b.idx", "c.idx"], "Ok(0)"),
+    Step::Taken(0, r#"(Some(["a.idx", "d.idx"]), Some(2))"#),
+    // What another collection holds is left to that, whether it was tried or not.
+    Step::Spare(&["b.idx"], r#"Ok(["c.idx"])"#),
+    Step::Next(0, r#""a.idx""#),
+    Step::Try(0, r#"Ok(Done("a.idx"))"#),
+    Step::Next(0, r#""d.idx""#),
+    Step::Spare(&["b.idx"], r#"Ok(["c.idx"])"#),
+    Step::End(
+        0,
+        r#"Ok(GarbageCollectionResult { deleted_files: ["a.idx"], failed_to_delete_files: [] })"#,
+    ),
+    Step::Spare(&["b.idx"], r#"Ok(["c.idx", "d.idx"])"#),
+    Step::Collect(
+        &["b.idx"],
+        r#"Ok(GarbageCollectionResult { deleted_files: ["c.idx", "d.idx"], failed_to_delete_files: [] })"#,
+    ),
+    Step::Spare(&[], r#"Ok(["b.idx"])"#),
+];
+
+// Behind these four: the number of the next collection. The call 15 is the sync at the beginning of the first one,
+// which isn't begun.
+const NUMBERED: &[Step] = &[
+    Step::Number("0"),
+    Step::Begin(&[], REFUSED),
+    Step::Number("0"),
+    Step::Begin(&["b.idx", "c.idx", "d.idx"], "Ok(0)"),
+    Step::Number("1"),
+    Step::Begin(&[], "Ok(1)"),
+    Step::Number("2"),
+    // No end gives a number back, and a collection at once takes none.
+    Step::End(
+        1,
+        r#"Ok(GarbageCollectionResult { deleted_files: [], failed_to_delete_files: [] })"#,
+    ),
+    Step::Number("2"),
+    Step::Collect(
+        &["b.idx"],
+        r#"Ok(GarbageCollectionResult { deleted_files: ["c.idx", "d.idx"], failed_to_delete_files: [] })"#,
+    ),
+    Step::Number("2"),
+    Step::Forget,
+    Step::Number("0"),
+];
+
 const RUNS: &[Run] = &[
     (&[], &[], LIVING_AND_NOT, 0),
     (&[], FOUR, ALL_BUT_ONE, 0),
@@ -197,4 +250,14 @@ const RUNS: &[Run] = &[
 #[test]
 fn collections_delete_what_does_not_live_and_go_on_after_refused_deletes_alone(rt: HostRuntime) {
     take_runs(&rt, rt.alloc(), RUNS);
+}
+
+#[test]
+fn what_a_collection_takes_is_known_before_it_begins(rt: HostRuntime) {
+    take_runs(&rt, rt.alloc(), &[(&[], FOUR, FORETOLD, 0)]);
+}
+
+#[test]
+fn the_number_of_the_next_collection_is_known_before_it_begins(rt: HostRuntime) {
+    take_runs(&rt, rt.alloc(), &[(&[15], FOUR, NUMBERED, 1)]);
 }

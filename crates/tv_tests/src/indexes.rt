@@ -92,6 +92,80 @@ fn what_stands_is_opened_or_refused(rt: HostRuntime) {
     stands::<_, TestRam>(&rt, rt.alloc(), FIRST);
 }
 
+// A commit of another schema than T.
+const OTHER: &str = "{\"segments\":[],\"schema\":[],\"opstamp\":7}";
+
+// What stands as `meta.json`, whether that is an index, what comes of making one with the schema T, and what of
+// opening the one that stands, or making one.
+type Standing = (
+    Option<&'static str>,
+    &'static str,
+    &'static str,
+    &'static str,
+);
+
+const STANDINGS: &[Standing] = &[
+    (None, "Ok(false)", "Ok(())", "Ok(())"),
+    (Some(FIRST), "Ok(true)", "Ok(())", "Ok(())"),
+    // A new index replaces what stands, whatever that is.
+    (Some("{"), "Ok(true)", "Ok(())", CORRUPT),
+    (Some(OTHER), "Ok(true)", "Ok(())", OTHER_SCHEMA),
+];
+
+// Whether it is told as it is to be that an index stands.
+fn is_there<R: Abort + Eprint, D: Empty>(
+    rt: &R,
+    alloc: Global,
+    meta: Option<&str>,
+    want: &str,
+) -> bool {
+    let mut directory: D = directory(rt, alloc, meta);
+    told(rt, alloc, Index::exists(&mut directory), want)
+}
+
+// Makes an index, which ends as it is to end.
+fn makes<R: Abort + Eprint, D: Empty>(
+    rt: &R,
+    alloc: Global,
+    meta: Option<&str>,
+    want: &str,
+) -> bool {
+    let directory: D = directory(rt, alloc, meta);
+    let schema = schema(rt, alloc, T);
+    let made = Index::create(alloc, directory, schema, IndexSettings::new());
+    told(rt, alloc, outcome(made), want)
+}
+
+// Opens the index that stands, or makes one, which ends as it is to end.
+fn opens_or_makes<R: Abort + Eprint, D: Empty>(
+    rt: &R,
+    alloc: Global,
+    meta: Option<&str>,
+    want: &str,
+) -> bool {
+    let directory: D = directory(rt, alloc, meta);
+    let opened = Index::open_or_create(alloc, directory, schema(rt, alloc, T));
+    told(rt, alloc, outcome(opened), want)
+}
+
+// Whether all goes so.
+fn goes_so<R: Abort + Eprint, D: Empty>(rt: &R, alloc: Global, standing: Standing) -> bool {
+    let (meta, there, made, opened) = standing;
+    is_there::<R, D>(rt, alloc, meta, there)
+        && makes::<R, D>(rt, alloc, meta, made)
+        && opens_or_makes::<R, D>(rt, alloc, meta, opened)
+}
+
+#[test]
+fn what_stands_is_replaced_or_opened(rt: HostRuntime) {
+    for (number, standing) in STANDINGS.iter().enumerate() {
+        assert!(rt;
+            goes_so::<_, TestRam>(&rt, rt.alloc(), *standing),
+            "standing {number}"
+        );
+    }
+}
+
 // Adds a segment of five documents.
 fn add_segment<R: Abort, D: Directory>(rt: &R, index: &mut Index<D>, meta: &mut IndexMeta, id: u8) {
     let share = index

@@ -49,6 +49,12 @@ pub(crate) enum Step {
     Begin(&'static [&'static str], &'static str),
     /// Which names a collection took and holds, and how many of them are left. None where it isn't unfinished.
     Taken(u64, &'static str),
+    /// Which names a collection would take that spares these.
+    Spare(&'static [&'static str], &'static str),
+    /// The number that the next collection gets.
+    Number(&'static str),
+    /// The name that a collection tries next.
+    Next(u64, &'static str),
     /// A collection tries its next name.
     Try(u64, &'static str),
     /// A collection ends.
@@ -205,6 +211,32 @@ fn has_taken<R: Eprint, D: Directory>(
     told(rt, alloc, taken, want) && holds_taken(managed, id)
 }
 
+// Whether a collection that spares these names would take those that it is to.
+fn spares<R: Abort + Eprint, D: Directory>(
+    rt: &R,
+    alloc: Global,
+    managed: &ManagedDirectory<D>,
+    living: &[&str],
+    want: &str,
+) -> bool {
+    let living = set_of(rt, alloc, living);
+    told(rt, alloc, managed.collectable(&living), want)
+}
+
+// Whether this is the name that a collection tries next.
+fn is_next<R: Eprint, D: Directory>(
+    rt: &R,
+    alloc: Global,
+    managed: &ManagedDirectory<D>,
+    id: u64,
+    want: &str,
+) -> bool {
+    match managed.collect_left(id) {
+        None | Some(0) => false,
+        Some(_) => told(rt, alloc, managed.collect_next(id), want),
+    }
+}
+
 // Whether a collection tries its next name as it is to.
 fn tries<R: Eprint, D: Directory>(
     rt: &R,
@@ -254,6 +286,9 @@ fn take<R: Abort + Eprint, D: Empty>(
         }
         Step::Begin(living, want) => told(rt, alloc, begin(rt, managed, alloc, living), want),
         Step::Taken(id, want) => has_taken(rt, alloc, managed, id, want),
+        Step::Spare(living, want) => spares(rt, alloc, managed, living, want),
+        Step::Number(want) => told(rt, alloc, managed.next_collection(), want),
+        Step::Next(id, want) => is_next(rt, alloc, managed, id, want),
         Step::Try(id, want) => tries(rt, alloc, managed, id, want),
         Step::End(id, want) => finishes(rt, alloc, managed, id, want),
         Step::Forget => told(rt, alloc, managed.forget_collections(), "()"),

@@ -9,7 +9,7 @@ ghost use Rattle.tv_machine.specs.SearcherEvents.{bytes_step};
 ghost use Rattle.tv_formats.specs.Segments.{name_of};
 ghost use Rattle.tv_machine.specs.State.{Reader, live_at, no_readers, reader_at};
 ghost use Rattle.tv_formats.specs.declared.segment.LiveSegment.{LiveSegment};
-ghost use Rattle.tv_directory.specs.View.{OnlyTells};
+ghost use Rattle.tv_device.specs.View.{OnlyTells};
 ghost use Rattle.tv_index.specs.Saving.{saved_text};
 ghost use Rattle.tv_store.specs.Applying.{LeavesAlone, WritesByStep};
 ghost use Rattle.tv_store.specs.EventLaws.{HasLiving, HoldsSome};
@@ -18,7 +18,7 @@ ghost use Rattle.tv_store.specs.SnapshotCalls.{ShowsMeta};
 
 use crate::index_store::IndexStore;
 use tv_base::TantivyError;
-use tv_directory::Outside;
+use tv_device::Outside;
 use tv_formats::{SegmentComponent, SegmentId};
 use tv_machine::{Answer, Blob, Event, IdList, Text};
 

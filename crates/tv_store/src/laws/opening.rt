@@ -9,7 +9,7 @@ ghost use Rattle.tv_store.specs.StoreCauses.{writer_lock_name};
 use crate::index_store::IndexStore;
 use std::alloc::Global;
 use tv_base::{LockError, TantivyError};
-use tv_directory::Outside;
+use tv_device::Outside;
 use tv_managed::Refused;
 
 /// Nothing is written before the writer lock is held: of a store that is open there was a moment at which

@@ -6,7 +6,7 @@ ghost use Rattle.tv_store.specs.Saving.{ShowsSettled};
 
 use crate::files::StoreFiles;
 use tv_base::TantivyError;
-use tv_directory::Outside;
+use tv_device::Outside;
 
 // Before a crash may leave a new commit, it leaves every other file as it stands; and once the save has
 // succeeded, no crash takes the commit away.

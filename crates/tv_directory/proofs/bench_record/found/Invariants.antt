@@ -1,7 +1,7 @@
 use Rattle.std.proofs.Common.{◌≡◌, map, take}
 use Rattle.std.specs.List.{flat_map}
 use Rattle.tv_directory.specs.Record.{found_by, since_sync}
-use Rattle.tv_directory.specs.StoredFiles.{disk_state_of}
+use Rattle.tv_device.specs.StoredFiles.{disk_state_of}
 use Rattle.tv_directory.proofs.bench_record.found.Given as goal
 
 abbrev pub invariant-loop-call : goal.invariant-loop-call

@@ -5,7 +5,7 @@ use Rattle.tv_formats.specs.Files.{Reads}
 use Rattle.tv_formats.proofs.ListTexts.{same_names}
 use Rattle.tv_directory.specs.Bench.{IsAtRest, IsNewBench}
 use Rattle.tv_directory.specs.Crashes.{AreKnown, LeavesBy, left_in}
-use Rattle.tv_directory.specs.View.{View}
+use Rattle.tv_device.specs.View.{View}
 use Rattle.tv_directory.specs.declared.bench.Bench.{Bench}
 use Rattle.tv_directory.proofs.laws.a_crash_leaves_each_name_by_its_own_number.Goals as goal
 

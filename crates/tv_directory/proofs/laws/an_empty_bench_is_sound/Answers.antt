@@ -1,7 +1,7 @@
 use Rattle.std.proofs.Common.{ap}
 use Rattle.std.proofs.lemmas.Result.{IfOk-weaker}
 use Rattle.tv_formats.proofs.FirstSound.{empty_sound}
-use Rattle.tv_directory.specs.StoredFiles.{last_of, named}
+use Rattle.tv_device.specs.StoredFiles.{last_of, named}
 use Rattle.tv_directory.proofs.laws.an_empty_bench_is_sound.Goals as goal
 
 pub returns : goal.returns

@@ -1,6 +1,6 @@
 use Rattle.std.proofs.Common.{◌∙◌, ap}
 use Rattle.tv_index.specs.NewForms.{form_with}
-use Rattle.tv_index.specs.Settings.{settings_view}
+use Rattle.tv_metas.specs.Settings.{settings_view}
 use Rattle.tv_index.proofs.Openings.{is_first}
 use Rattle.tv_index.proofs.opening.new_meta.Goals as goal
 

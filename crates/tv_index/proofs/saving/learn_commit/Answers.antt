@@ -1,7 +1,7 @@
 use Rattle.std.proofs.Common.{List, map, subst, arith}
 use Rattle.std.specs.List.{AllByRecursion}
 use Rattle.tv_formats.specs.Commits.{IsSegment}
-use Rattle.tv_index.specs.Tracked.{Share}
+use Rattle.tv_metas.specs.Tracked.{Share}
 use Rattle.tv_index.proofs.Saves.{ordered_is_commit}
 use Rattle.tv_index.proofs.saving.learn_commit.Goals as goal
 

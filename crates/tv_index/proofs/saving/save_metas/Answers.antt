@@ -1,7 +1,7 @@
 use Rattle.std.proofs.Common.{◌∙◌, refl}
 use Rattle.tv_formats.specs.Names.{meta_name}
 use Rattle.tv_base.specs.declared.error.TantivyError.TheVariants as errors
-use Rattle.tv_index.specs.TrackedMetas.{tracked_form}
+use Rattle.tv_metas.specs.TrackedMetas.{tracked_form}
 use Rattle.tv_index.proofs.Managing.{manages_err, manages_none, manages_ok}
 use Rattle.tv_index.proofs.Openings.{notes_unless, same_memory}
 use Rattle.tv_index.proofs.SavedSafely.{saves_err, saves_none, saves_ok}

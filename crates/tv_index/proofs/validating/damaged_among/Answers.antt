@@ -5,7 +5,7 @@ use Rattle.tv_base.specs.Errors.{of_open_read}
 use Rattle.tv_base.specs.declared.error.TantivyError.TheVariants as errors
 use Rattle.tv_managed.specs.Reading.{FooterFaults}
 use Rattle.tv_managed.specs.TrackLaws.{keeps_then}
-use Rattle.tv_directory.specs.ViewLaws.{reads_then}
+use Rattle.tv_device.specs.ViewLaws.{reads_then}
 use Rattle.tv_index.specs.Checksums.{AreDamaged}
 use Rattle.tv_index.proofs.Damages.{one_further, unread_cause, unread_faults}
 use Rattle.tv_index.proofs.validating.damaged_among.Goals as goal

@@ -1,6 +1,6 @@
 use Rattle.std.proofs.Common.{◌≡◌, map, take, string_bytes}
-use Rattle.tv_directory.specs.Images.{KeepsDisk}
-use Rattle.tv_directory.specs.View.{OnlyReads}
+use Rattle.tv_device.specs.Images.{KeepsDisk}
+use Rattle.tv_device.specs.View.{OnlyReads}
 use Rattle.tv_managed.specs.Frames.{KeepsNames}
 use Rattle.tv_index.specs.Checksums.{AreDamaged}
 use Rattle.tv_index.proofs.validating.damaged_among.Given as goal

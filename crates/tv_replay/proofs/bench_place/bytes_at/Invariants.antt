@@ -1,6 +1,6 @@
 use Rattle.std.proofs.Common.{◌≡◌, drop}
 use Rattle.tv_formats.specs.Names.{at}
-use Rattle.tv_directory.specs.StoredFiles.{named}
+use Rattle.tv_device.specs.StoredFiles.{named}
 use Rattle.tv_replay.proofs.bench_place.bytes_at.Given as goal
 
 abbrev pub invariant-loop-name : goal.invariant-loop-name

@@ -1,6 +1,6 @@
 use Rattle.std.proofs.Common.{◌≡◌, ◌≤◌, filter, length, map, take, string_bytes}
 use Rattle.std.specs.Prelude.{is_some}
-use Rattle.tv_directory.specs.View.{OnlyReads}
+use Rattle.tv_device.specs.View.{OnlyReads}
 use Rattle.tv_managed.specs.Frames.{KeepsNames}
 use Rattle.tv_replay.proofs.summary.count_files.Given as goal
 

@@ -3,7 +3,7 @@ use Rattle.std.specs.Prelude.{is_some}
 use Rattle.std.specs.List.{list_all}
 use Rattle.tv_formats.specs.Names.{is_plain}
 use Rattle.tv_managed.specs.Names.{ManagedNames}
-use Rattle.tv_index.specs.Metas.{commit_of, settings_of}
+use Rattle.tv_metas.specs.Metas.{commit_of, settings_of}
 use Rattle.tv_replay.proofs.StandingIndexes.{stands}
 use Rattle.tv_replay.proofs.summary.look_into.Goals as goal
 

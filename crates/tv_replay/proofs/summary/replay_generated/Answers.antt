@@ -1,5 +1,5 @@
 use Rattle.std.proofs.Common.{Some, sym, ap, ◌∙◌}
-use Rattle.tv_directory.specs.StoredFiles.{last_of, named}
+use Rattle.tv_device.specs.StoredFiles.{last_of, named}
 use Rattle.tv_replay.proofs.FirstRuns.{replays_generated}
 use Rattle.tv_replay.proofs.summary.replay_generated.Goals as goal
 

@@ -4,7 +4,8 @@ use Rattle.std.proofs.lemmas.Map.Iter.{iter_end}
 use Rattle.tv_formats.specs.Names.{has}
 use Rattle.tv_formats.proofs.CollectedNames.{has_append}
 use Rattle.tv_formats.proofs.Entries.{has_put}
-use Rattle.tv_store.proofs.Removals.{has_keys, map_same}
+use Rattle.std.proofs.lemmas.List.{map-id}
+use Rattle.tv_store.proofs.Removals.{has_keys}
 use Rattle.tv_store.proofs.files_collecting.leave_all.Goals as goal
 
 pub loop-name-preserved : goal.loop-name-preserved
@@ -25,5 +26,5 @@ loop-name-preserved g c = record {
 pub returns : goal.returns
 returns g c n =
     let shown : map (λ e. e) c.loop-name.yielded ≡ c.args.map.entries = search (rules, iter_end) in
-    let all = sym (map_same c.loop-name.yielded) ∙ shown in
+    let all = sym (map-id c.loop-name.yielded) ∙ shown in
     c.loop-name.invariant.names n ∙ ap (λ es. has c.args.set.now.keys n || has (map (λ e. e.0) es) n) all ∙ ap (λ b. has c.args.set.now.keys n || b) (has_keys c.args.map.entries n)

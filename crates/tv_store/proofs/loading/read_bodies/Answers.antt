@@ -2,7 +2,7 @@ use Rattle.std.proofs.Common.{◌≡◌, ◌<◌, length, sym, subst, ◌∙◌,
 use Rattle.std.proofs.lemmas.List.{take_all}
 use Rattle.tv_formats.specs.Files.{Rose}
 use Rattle.tv_formats.proofs.Results.{handed_on}
-use Rattle.tv_directory.specs.ViewLaws.{reads_then}
+use Rattle.tv_device.specs.ViewLaws.{reads_then}
 use Rattle.tv_store.specs.Bodies.{AreBodies, AreGood, FailsAt}
 use Rattle.tv_store.specs.Kept.{kept_of}
 use Rattle.tv_store.proofs.CheckedFiles.{files_then}

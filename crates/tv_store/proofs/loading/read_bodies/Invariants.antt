@@ -3,7 +3,7 @@ use Rattle.tv_formats.specs.Names.{has}
 use Rattle.tv_machine.specs.State.{State}
 use Rattle.tv_store.specs.Bodies.{AreBodies, AreSealed, ReadsGoodFile}
 use Rattle.tv_store.specs.Performing.{FilesHold}
-use Rattle.tv_directory.specs.View.{OnlyReads}
+use Rattle.tv_device.specs.View.{OnlyReads}
 use Rattle.tv_store.specs.Stays.{KeepsFiles}
 use Rattle.tv_store.proofs.loading.read_bodies.Given as goal
 

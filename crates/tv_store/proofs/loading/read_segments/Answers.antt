@@ -1,11 +1,11 @@
 use Rattle.std.proofs.Common.{◌≡◌, ◌<◌, ℕ, List, length, get_or, map, sym, ap, subst, ◌∙◌, arith, rules}
 use Rattle.std.proofs.lemmas.List.{get_or-map, length-map, map_push, take_all}
-use Rattle.tv_index.specs.Segments.{entry_of}
+use Rattle.tv_metas.specs.Segments.{entry_of}
 use Rattle.tv_formats.specs.Files.{Rose}
 use Rattle.tv_formats.specs.Segments.{all_required, required_names}
 use Rattle.tv_formats.specs.declared.segment.LiveSegment.{LiveSegment}
 use Rattle.tv_formats.proofs.Results.{handed_on}
-use Rattle.tv_directory.specs.ViewLaws.{reads_then}
+use Rattle.tv_device.specs.ViewLaws.{reads_then}
 use Rattle.tv_store.specs.Bodies.{AreGood, AreSealed, FailsAt, ReadsSegment, ReadsSegments}
 use Rattle.tv_store.specs.declared.snapshot.SegmentReader.{SegmentReader}
 use Rattle.tv_store.proofs.CheckedFiles.{files_then}

@@ -3,8 +3,8 @@ use Rattle.tv_machine.specs.State.{State}
 use Rattle.tv_formats.specs.Segments.{all_required}
 use Rattle.tv_store.specs.Bodies.{AreGood, AreSealed, ReadsSegments}
 use Rattle.tv_store.specs.Performing.{FilesHold}
-use Rattle.tv_directory.specs.View.{OnlyReads}
-use Rattle.tv_index.specs.Segments.{entry_of}
+use Rattle.tv_device.specs.View.{OnlyReads}
+use Rattle.tv_metas.specs.Segments.{entry_of}
 use Rattle.tv_store.specs.Stays.{KeepsFiles}
 use Rattle.tv_store.proofs.loading.read_segments.Given as goal
 

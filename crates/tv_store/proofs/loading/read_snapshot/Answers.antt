@@ -1,7 +1,7 @@
 use Rattle.std.proofs.Common.{◌≡◌, ◌∙◌, ℕ, List, Option, ap, map, subst, string_bytes, true, rules}
 use Rattle.std.specs.Prelude.{option_map}
-use Rattle.tv_index.specs.Segments.{entry_of}
-use Rattle.tv_index.specs.declared.segment_meta.InnerSegmentMeta.{InnerSegmentMeta}
+use Rattle.tv_metas.specs.Segments.{entry_of}
+use Rattle.tv_metas.specs.declared.segment_meta.InnerSegmentMeta.{InnerSegmentMeta}
 use Rattle.tv_formats.specs.Commits.{Commit}
 use Rattle.tv_formats.specs.Names.{has}
 use Rattle.tv_formats.specs.Segments.{all_required}

@@ -1,7 +1,7 @@
 use Rattle.std.proofs.Common.{◌≡◌, ℕ, ◌≤◌, ◌++◌, ◌∷◌, [], true, List, Err, refl, sym, ap, subst, ◌∙◌, arith}
 use Rattle.tv_base.specs.declared.error.TantivyError.TheVariants as errors
-use Rattle.tv_directory.specs.View.{OnlyReads}
-use Rattle.tv_directory.specs.ViewLaws.{reads_then}
+use Rattle.tv_device.specs.View.{OnlyReads}
+use Rattle.tv_device.specs.ViewLaws.{reads_then}
 use Rattle.tv_index.specs.CrashLaws.{looks_kept, looks_none, looks_then}
 use Rattle.tv_formats.specs.Files.{Heard, Rose}
 use Rattle.std.specs.List.{AllByRecursion}

@@ -2,7 +2,7 @@ use Rattle.std.proofs.Common.{◌<◌, ◌∙◌, ap, length, arith}
 use Rattle.std.specs.BTreeMap.{insert_entry}
 use Rattle.tv_formats.specs.Names.{byte_cmp}
 use Rattle.tv_formats.specs.declared.segment.LiveSegment.{LiveSegment}
-use Rattle.tv_index.specs.Segments.{entry_of}
+use Rattle.tv_metas.specs.Segments.{entry_of}
 use Rattle.tv_store.proofs.OpenedCatalogs.{next_segment}
 use Rattle.tv_store.proofs.opening.by_id.Goals as goal
 

@@ -1,5 +1,5 @@
 use Rattle.std.proofs.Common.{◌≡◌, map, take}
-use Rattle.tv_index.specs.Segments.{entry_of}
+use Rattle.tv_metas.specs.Segments.{entry_of}
 use Rattle.tv_store.specs.Making.{IsSorted}
 use Rattle.tv_store.proofs.opening.by_id.Given as goal
 

@@ -1,7 +1,7 @@
 use Rattle.std.proofs.Common.{◌≡◌, sym, ap, subst, ◌∙◌}
 use Rattle.std.specs.List.{AllByRecursion}
-use Rattle.tv_directory.specs.View.{OnlyReads}
-use Rattle.tv_directory.specs.ViewLaws.{reads_then}
+use Rattle.tv_device.specs.View.{OnlyReads}
+use Rattle.tv_device.specs.ViewLaws.{reads_then}
 use Rattle.tv_index.specs.Crashes.{OnlyLooks}
 use Rattle.tv_index.specs.CrashLaws.{looks_kept, looks_then}
 use Rattle.tv_machine.specs.Index.{IsFileOf}

@@ -1,7 +1,7 @@
 use Rattle.std.proofs.Common.{◌≡◌}
 use Rattle.std.specs.List.{AllByRecursion}
 use Rattle.std.specs.Vec.Iter.{into_iter_items}
-use Rattle.tv_directory.specs.View.{OnlyReads}
+use Rattle.tv_device.specs.View.{OnlyReads}
 use Rattle.tv_index.specs.Crashes.{OnlyLooks}
 use Rattle.tv_machine.specs.Index.{IsFileOf}
 use Rattle.tv_store.specs.Stays.{KeepsFiles}

@@ -1,5 +1,5 @@
 use Rattle.std.proofs.Common.{subst}
-use Rattle.tv_directory.specs.Calls.{Frees}
+use Rattle.tv_device.specs.Calls.{Frees}
 use Rattle.tv_store.proofs.opening.find_under_lock.Goals as goal
 
 pub returns-in-Err-clause-none : goal.returns-in-Err-clause-none

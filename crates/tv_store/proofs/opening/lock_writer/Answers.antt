@@ -1,6 +1,6 @@
 use Rattle.std.proofs.Common.{◌≡◌, true, subst}
 use Rattle.tv_formats.proofs.Results.{handed_on}
-use Rattle.tv_directory.specs.Locks.{LockCause, TakesLock}
+use Rattle.tv_device.specs.Locks.{LockCause, TakesLock}
 use Rattle.tv_store.specs.UnderLock.{NotUnderLock}
 use Rattle.tv_store.proofs.Locking.{is_locked, not_given}
 use Rattle.tv_store.proofs.opening.lock_writer.Goals as goal

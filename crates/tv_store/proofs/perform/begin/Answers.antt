@@ -1,15 +1,17 @@
-use Rattle.std.proofs.Common.{◌≡◌, ◌++◌, ◌+◌, ℕ, [], List, map, string_bytes, inl, refl, ap, sym, subst, ◌∙◌, arith}
+use Rattle.std.proofs.Common.{◌≡◌, ◌++◌, ◌+◌, ℕ, Ok, List, map, string_bytes, refl, ap, sym, subst, ◌∙◌, arith}
 use Rattle.std.proofs.lemmas.Result.{err_from_is_err_and}
 use Rattle.tv_formats.specs.Collections.{Collections, collectable, held, with_begun}
-use Rattle.tv_formats.specs.Names.{meta_name}
 use Rattle.tv_machine.specs.CollectionEvents.{garbage}
 use Rattle.tv_machine.specs.State.{State}
 use Rattle.tv_store.proofs.ActsPlanned.{locking_as}
 use Rattle.tv_store.proofs.CollectingEvents.{begun_holds}
 use Rattle.tv_store.proofs.CollectionEvents.{takes_garbage}
 use Rattle.tv_store.proofs.FilesHeld.{short_same}
+use Rattle.tv_store.proofs.Performing.{came_undeleted, on_read}
 use Rattle.tv_store.specs.Actions.{taken_beside}
 use Rattle.tv_store.specs.Performing.{FilesHold}
+use Rattle.tv_store.specs.declared.action.Action.TheVariants as actions
+use Rattle.tv_store.specs.declared.action.Reply.TheVariants as replies
 use Rattle.tv_store.proofs.perform.begin.Goals as goal
 
 pub returns : goal.returns
@@ -17,43 +19,26 @@ returns g c =
     let D = g.O.Directory in
     let old = c.args.files.now in
     let new = c.collect_begin.new.self in
+    let action = actions.Begin c.args.living in
     let needed = map string_bytes c.args.living.keys in
     let told = c.in_ok-collect_begin.ensures.begins in
     let faults = c.in_ok-collect_begin.ensures.faults in
     let frame = c.collect_begin.ensures.frame in
-    let below = frame.below in
     let form : new.form ≡ old.form = ap (λ v. v.form) frame.rest in
+    on_read D action old new (Ok replies.Done) refl
+    (came_undeleted D action old new (Ok replies.Done) frame.below.kept (λ tells s h whole suits.
+    let taken : collectable (needed ++ held old.collections) old.managed ≡ taken_beside needed s =
+    ap (λ (k : Collections). collectable (needed ++ held k) old.managed) h.collections ∙ ap (collectable (needed ++ held s.collections)) h.managed in
+    let is : garbage s ≡ taken_beside needed s = sym (takes_garbage D s.catalog old new form s needed h suits) ∙ taken in
     record {
-      gives = refl;
-      performed = (
-        [],
-        inl (omega (arith, below.kept.frame.tells_none.deletes_none.refusals)),
-        λ tells s h whole suits.
-            let taken : collectable (needed ++ held old.collections) old.managed ≡ taken_beside needed s =
-            ap (λ (k : Collections). collectable (needed ++ held k) old.managed) h.collections ∙ ap (collectable (needed ++ held s.collections)) h.managed in
-            let is : garbage s ≡ taken_beside needed s = sym (takes_garbage D s.catalog old new form s needed h suits) ∙ taken in
-            record {
-              reply_is = refl;
-              held = subst (λ (ns : List (List ℕ)). FilesHold D new (record s { collections = with_begun s.collections ns })) is
-                  (begun_holds D s.catalog old new form s h c.in_ok-collect_begin.field-0 needed suits told (below.content tells) frame.rest);
-              same = λ some stays. let more : s.collections.next + 1 ≡ s.collections.next = ap (λ (t : State). t.collections.next) stays in absurd (omega (arith, more));
-              saves = λ commit e. absurd cc;
-            },
-      );
-      alone = λ only. absurd only;
-      meta = λ tells s h whole suits deletes. tt;
-      memory = λ tells. tt;
-      spared = λ tells none. below.content tells meta_name;
-      dotted = λ tells n dot other. below.content tells n;
-      lens = λ bound short. short_same bound 0 old.open_files new.open_files (ap (λ v. v.open_files) frame.rest) short;
-      numbers = omega (arith, ap (λ (k : Collections). k.next) told.collections);
-      quiet = faults.quiet;
-      free = λ locks takes. faults.free locks;
-      fits = faults.fits;
-      cause = tt;
-      form = form;
-      frame = record { goes_on = below.kept.frame.tells_none.deletes_none.goes_on; heard = below.kept.frame.tells_none.heard; room = below.kept.frame.tells_none.room; locks = below.kept.frame.locks; watched = below.kept.watched };
-    }
+      reply_is = refl;
+      held = subst (λ (ns : List (List ℕ)). FilesHold D new (record s { collections = with_begun s.collections ns })) is
+          (begun_holds D s.catalog old new form s h c.in_ok-collect_begin.field-0 needed suits told (frame.below.content tells) frame.rest);
+      same = λ some stays. let more : s.collections.next + 1 ≡ s.collections.next = ap (λ (t : State). t.collections.next) stays in absurd (omega (arith, more));
+      saves = λ commit e. absurd cc;
+    }))
+    (λ bound short. short_same bound 0 old.open_files new.open_files (ap (λ v. v.open_files) frame.rest) short) (omega (arith, ap (λ (k : Collections). k.next) told.collections))
+    (record { quiet = faults.quiet; free = λ locks takes. faults.free locks; fits = faults.fits; cause = tt }) form refl frame.below
 
 pub returns-in_err-collect_begin : goal.returns-in_err-collect_begin
 returns-in_err-collect_begin g c =
@@ -61,23 +46,8 @@ returns-in_err-collect_begin g c =
     let old = c.args.files.now in
     let new = c.collect_begin.new.self in
     let frame = c.collect_begin.ensures.frame in
-    let below = frame.below in
     let e = err_from_is_err_and c.from_residual.result c.from_residual.ensures.1 in
     rw (e.1, e.2)
-    (record {
-      gives = tt;
-      performed = tt;
-      alone = λ only. absurd only;
-      meta = λ tells s h whole suits deletes. inl (below.content tells meta_name);
-      memory = λ tells is. below.content tells meta_name;
-      spared = λ tells. tt;
-      dotted = λ tells n dot other. below.content tells n;
-      lens = λ bound short. short_same bound 0 old.open_files new.open_files (ap (λ v. v.open_files) frame.rest) short;
-      numbers = tt;
-      quiet = tt;
-      free = λ locks takes. tt;
-      fits = tt;
-      cause = locking_as _ _ (λ b. (tt, b)) (λ spent. spent) c.in_err-collect_begin.field-0.0 c.in_err-collect_begin.ensures.faults.cause;
-      form = ap (λ v. v.form) frame.rest;
-      frame = record { goes_on = below.kept.frame.tells_none.deletes_none.goes_on; heard = below.kept.frame.tells_none.heard; room = below.kept.frame.tells_none.room; locks = below.kept.frame.locks; watched = below.kept.watched };
-    })
+    (on_read D (actions.Begin c.args.living) old new _ tt tt (λ bound short. short_same bound 0 old.open_files new.open_files (ap (λ v. v.open_files) frame.rest) short) tt
+    (record { quiet = tt; free = λ locks takes. tt; fits = tt; cause = locking_as _ _ (λ b. (tt, b)) (λ spent. spent) c.in_err-collect_begin.field-0.0 c.in_err-collect_begin.ensures.faults.cause })
+    (ap (λ v. v.form) frame.rest) refl frame.below)

@@ -1,4 +1,4 @@
-use Rattle.std.proofs.Common.{◌≡◌, ◌++◌, inl, List, ℕ, map, string_bytes, refl, ap, sym, subst, ◌∙◌, arith}
+use Rattle.std.proofs.Common.{◌≡◌, ◌++◌, Ok, List, ℕ, map, string_bytes, refl, ap, sym, subst, ◌∙◌, arith}
 use Rattle.std.proofs.lemmas.Result.{err_from_is_err_and}
 use Rattle.tv_formats.specs.Collections.{Collections, collectable, done_of, failed_of, held}
 use Rattle.tv_formats.specs.Names.{meta_name}
@@ -7,10 +7,12 @@ use Rattle.tv_store.proofs.ActsPlanned.{locking_as}
 use Rattle.tv_store.proofs.Changed.{none_done}
 use Rattle.tv_store.proofs.CollectionEvents.{collected, refusals_rose, takes_garbage}
 use Rattle.tv_store.proofs.FilesHeld.{short_same}
+use Rattle.tv_store.proofs.Performing.{kept_by_deletes, on_files}
 use Rattle.tv_store.proofs.Listings.{undotted_isnt_list}
 use Rattle.tv_store.specs.Actions.{taken_beside}
 use Rattle.tv_store.specs.Kept.{CollectedNames}
 use Rattle.tv_store.specs.Performing.{FilesHold}
+use Rattle.tv_store.specs.declared.action.Action.TheVariants as actions
 use Rattle.tv_store.specs.declared.action.Reply.TheVariants as replies
 use Rattle.tv_store.proofs.perform.collect.Goals as goal
 
@@ -19,6 +21,7 @@ returns g c =
     let D = g.O.Directory in
     let old = c.args.files.now in
     let new = c.collect.new.self in
+    let action = actions.Collect c.args.living in
     let needed = map string_bytes c.args.living.keys in
     let reply = c.in_ok-collected.collected in
     let told = c.in_ok-collected.ensures.collects in
@@ -27,66 +30,41 @@ returns g c =
     let faults = c.in_ok-collected.ensures.faults in
     let frame = c.collect.ensures.frame in
     let is : reply ≡ record { deleted = done_of names outs; failed = failed_of names outs } = rw (← told.tried.deleted_is, ← told.tried.failed_is) refl in
-    record {
-      gives = (outs, ap (λ (r : CollectedNames). replies.Collected r) is);
-      performed = (
-        outs,
-        refusals_rose D names old new reply.deleted reply.failed told.tried (D.view old.outside).refusals (D.view new.outside).refusals told.counted,
-        λ tells s h whole suits.
-            let taken : names ≡ taken_beside needed s =
-            ap (λ (k : Collections). collectable (needed ++ held k) old.managed) h.collections ∙ ap (collectable (needed ++ held s.collections)) h.managed in
-            let all : names ≡ garbage s = takes_garbage D s.catalog old new frame.form s needed h suits in
-            let done : reply.deleted ≡ done_of (garbage s) outs = told.tried.deleted_is ∙ ap (λ (ns : List (List ℕ)). done_of ns outs) all in
-            record {
-              reply_is = ap (λ (r : CollectedNames). replies.Collected r) is
-                  ∙ ap (λ (ns : List (List ℕ)). replies.Collected (record { deleted = done_of ns outs; failed = failed_of ns outs })) taken;
-              held = subst (λ (ns : List (List ℕ)). FilesHold D new (without_files s ns)) (sym done)
-                  (collected D s.catalog old new frame.form s needed reply.deleted reply.failed tells h suits told (c.in_ok-collected.ensures.list tells)).1;
-              same = λ some stays. record {
-                reads = told.same tells (done ∙ none_done s outs (subst (λ (ns : List (List ℕ)). without_files s ns ≡ s) done stays));
-                watched = frame.below.watched;
-              };
-              saves = λ commit e. absurd cc;
-            },
-      );
-      alone = λ only. absurd only;
-      meta = λ tells s h whole suits deletes. tt;
-      memory = λ tells. tt;
-      spared = λ tells none. c.collect.ensures.spared tells meta_name c.requires (undotted_isnt_list meta_name refl);
-      dotted = λ tells. c.collect.ensures.dotted tells;
-      lens = λ bound short. short_same bound 0 new.open_files new.open_files refl (c.collect.ensures.lens bound short);
-      numbers = omega (arith, ap (λ (k : Collections). k.next) told.collections);
-      quiet = faults.quiet;
-      free = λ locks takes. faults.free locks;
-      fits = faults.fits;
-      cause = tt;
-      form = frame.form;
-      frame = record { goes_on = frame.below.goes_on; heard = frame.below.heard; room = frame.below.room; locks = frame.below.locks; watched = frame.below.watched };
-    }
+    on_files D action old new (Ok (replies.Collected reply)) (outs, ap (λ (r : CollectedNames). replies.Collected r) is) (
+      outs,
+      refusals_rose D names old new reply.deleted reply.failed told.tried (D.view old.outside).refusals (D.view new.outside).refusals told.counted,
+      λ tells s h whole suits.
+          let taken : names ≡ taken_beside needed s =
+          ap (λ (k : Collections). collectable (needed ++ held k) old.managed) h.collections ∙ ap (collectable (needed ++ held s.collections)) h.managed in
+          let all : names ≡ garbage s = takes_garbage D s.catalog old new frame.form s needed h suits in
+          let done : reply.deleted ≡ done_of (garbage s) outs = told.tried.deleted_is ∙ ap (λ (ns : List (List ℕ)). done_of ns outs) all in
+          record {
+            reply_is = ap (λ (r : CollectedNames). replies.Collected r) is
+                ∙ ap (λ (ns : List (List ℕ)). replies.Collected (record { deleted = done_of ns outs; failed = failed_of ns outs })) taken;
+            held = subst (λ (ns : List (List ℕ)). FilesHold D new (without_files s ns)) (sym done)
+                (collected D s.catalog old new frame.form s needed reply.deleted reply.failed tells h suits told (c.in_ok-collected.ensures.list tells)).1;
+            same = λ some stays. record {
+              reads = told.same tells (done ∙ none_done s outs (subst (λ (ns : List (List ℕ)). without_files s ns ≡ s) done stays));
+              watched = frame.below.watched;
+            };
+            saves = λ commit e. absurd cc;
+          },
+    )
+    (λ tells. c.collect.ensures.spared tells meta_name c.requires (undotted_isnt_list meta_name refl)) (λ tells. c.collect.ensures.dotted tells)
+    (λ bound short. short_same bound 0 new.open_files new.open_files refl (c.collect.ensures.lens bound short)) (omega (arith, ap (λ (k : Collections). k.next) told.collections))
+    (record { quiet = faults.quiet; free = λ locks takes. faults.free locks; fits = faults.fits; cause = tt }) frame.form
+    (kept_by_deletes D.told action (D.view old.outside) (D.view new.outside) tt frame.below.watched frame.below) (λ only. absurd only)
 
 pub returns-in_err-collected : goal.returns-in_err-collected
 returns-in_err-collected g c =
     let D = g.O.Directory in
     let old = c.args.files.now in
     let new = c.collect.new.self in
+    let action = actions.Collect c.args.living in
     let frame = c.collect.ensures.frame in
-    let meta : D.told.content → (D.view new.outside).reads meta_name ≡ (D.view old.outside).reads meta_name = λ tells. c.collect.ensures.spared tells meta_name c.requires (undotted_isnt_list meta_name refl) in
     let e = err_from_is_err_and c.from_residual.result c.from_residual.ensures.1 in
     rw (e.1, e.2)
-    (record {
-      gives = tt;
-      performed = tt;
-      alone = λ only. absurd only;
-      meta = λ tells s h whole suits deletes. inl (meta tells);
-      memory = λ tells is. meta tells;
-      spared = λ tells. tt;
-      dotted = λ tells. c.collect.ensures.dotted tells;
-      lens = λ bound short. short_same bound 0 new.open_files new.open_files refl (c.collect.ensures.lens bound short);
-      numbers = tt;
-      quiet = tt;
-      free = λ locks takes. tt;
-      fits = tt;
-      cause = locking_as _ _ (λ b. (tt, b)) (λ spent. spent) c.in_err-collected.field-0.0 c.in_err-collected.ensures.faults.cause;
-      form = frame.form;
-      frame = record { goes_on = frame.below.goes_on; heard = frame.below.heard; room = frame.below.room; locks = frame.below.locks; watched = frame.below.watched };
-    })
+    (on_files D action old new _ tt tt (λ tells. c.collect.ensures.spared tells meta_name c.requires (undotted_isnt_list meta_name refl)) (λ tells. c.collect.ensures.dotted tells)
+    (λ bound short. short_same bound 0 new.open_files new.open_files refl (c.collect.ensures.lens bound short)) tt
+    (record { quiet = tt; free = λ locks takes. tt; fits = tt; cause = locking_as _ _ (λ b. (tt, b)) (λ spent. spent) c.in_err-collected.field-0.0 c.in_err-collected.ensures.faults.cause }) frame.form
+    (kept_by_deletes D.told action (D.view old.outside) (D.view new.outside) tt frame.below.watched frame.below) (λ only. absurd only))

@@ -5,7 +5,7 @@ use Rattle.tv_store.proofs.Changed.{ended_now}
 use Rattle.tv_store.proofs.CollectingEvents.{ended_holds, found_there}
 use Rattle.tv_store.proofs.FilesHeld.{short_same}
 use Rattle.tv_store.proofs.Listings.{undotted_isnt_list}
-use Rattle.tv_store.proofs.Performing.{came_undeleted, kept_by, on_files}
+use Rattle.tv_store.proofs.Performing.{came_undeleted, kept_by, on_files, plain_faults}
 use Rattle.tv_store.specs.Actions.{after_end}
 use Rattle.tv_store.specs.Performing.{FilesHold}
 use Rattle.tv_store.specs.declared.action.Action.TheVariants as actions
@@ -30,5 +30,6 @@ returns g c =
       saves = λ commit e. absurd cc;
     }))
     (λ tells. done.others tells meta_name (undotted_isnt_list meta_name refl)) (λ tells n dot other. done.others tells n other)
-    (λ bound short. short_same bound 0 old.open_files new.open_files (ap (λ v. v.open_files) done.frame.rest) short) (omega (arith, ap (λ v. v.next) told.collections)) (search rules) form
-    (kept_by D.told _ (D.view old.outside) (D.view new.outside) done.frame.below.watched done.frame.below) (λ spent. spent) (λ takes. takes) (λ only. only)
+    (λ bound short. short_same bound 0 old.open_files new.open_files (ap (λ v. v.open_files) done.frame.rest) short) (omega (arith, ap (λ v. v.next) told.collections))
+    (plain_faults D (actions.End c.args.number) old new (Ok replies.Done) (search rules) (λ spent. spent) (λ takes. takes)) form
+    (kept_by D.told _ (D.view old.outside) (D.view new.outside) done.frame.below.watched done.frame.below) (λ only. absurd only)

@@ -2,8 +2,8 @@ use Rattle.std.proofs.Common.{◌≡◌, [], ap, sym, subst, ◌∙◌, arith}
 use Rattle.std.proofs.lemmas.List.{nil_from_length}
 use Rattle.std.specs.List.{AllByRecursion}
 use Rattle.std.specs.Vec.Iter.{into_iter_items}
-use Rattle.tv_directory.specs.View.{OnlyReads}
-use Rattle.tv_directory.specs.ViewLaws.{reads_then}
+use Rattle.tv_device.specs.View.{OnlyReads}
+use Rattle.tv_device.specs.ViewLaws.{reads_then}
 use Rattle.tv_machine.specs.Index.{IsFileOf}
 use Rattle.tv_store.proofs.CheckedFiles.{files_then}
 use Rattle.tv_store.proofs.KeptFiles.{fails_after}

@@ -5,7 +5,7 @@ use Rattle.tv_machine.specs.CollectionEvents.{having_deleted}
 use Rattle.tv_store.proofs.Changed.{tried_less}
 use Rattle.tv_store.proofs.CollectingEvents.{found_there, stepped_holds}
 use Rattle.tv_store.proofs.FilesHeld.{short_same}
-use Rattle.tv_store.proofs.Performing.{on_files}
+use Rattle.tv_store.proofs.Performing.{kept_by_deletes, on_files, plain_faults}
 use Rattle.tv_store.specs.Actions.{after_one, after_tried, tried_in, tried_of}
 use Rattle.tv_store.specs.Performing.{FilesHold}
 use Rattle.tv_store.specs.declared.action.Action.TheVariants as actions
@@ -39,8 +39,9 @@ returns g c =
           },
     )
     (λ tells. told.others tells meta_name told.spares) (λ tells. c.collect_delete.ensures.dotted tells)
-    (λ bound short. short_same bound 0 new.open_files new.open_files refl (c.collect_delete.ensures.lens bound short)) (omega (arith, ap (λ (k : Collections). k.next) told.collections)) (search rules) frame.form
-    (record { goes_on = frame.below.goes_on; heard = frame.below.heard; room = frame.below.room; locks = frame.below.locks; watched = frame.below.watched }) (λ spent. spent) (λ takes. takes) (λ only. only)
+    (λ bound short. short_same bound 0 new.open_files new.open_files refl (c.collect_delete.ensures.lens bound short)) (omega (arith, ap (λ (k : Collections). k.next) told.collections))
+    (plain_faults D (actions.Try number) old new _ (search rules) (λ spent. spent) (λ takes. takes)) frame.form
+    (kept_by_deletes D.told (actions.Try number) (D.view old.outside) (D.view new.outside) tt frame.below.watched frame.below) (λ only. absurd only)
 
 pub returns-in_err-tried : goal.returns-in_err-tried
 returns-in_err-tried g c =
@@ -49,5 +50,6 @@ returns-in_err-tried g c =
     let new = c.collect_delete.new.self in
     let frame = c.collect_delete.ensures.frame in
     on_files D (actions.Try c.args.number) old new c.from_residual.result (search rules) (search rules) (λ tells. c.in_err-tried.ensures.same tells meta_name) (λ tells. c.collect_delete.ensures.dotted tells)
-    (λ bound short. short_same bound 0 new.open_files new.open_files refl (c.collect_delete.ensures.lens bound short)) (search rules) (search rules) frame.form
-    (record { goes_on = frame.below.goes_on; heard = frame.below.heard; room = frame.below.room; locks = frame.below.locks; watched = frame.below.watched }) (λ spent. spent) (λ takes. takes) (λ only. only)
+    (λ bound short. short_same bound 0 new.open_files new.open_files refl (c.collect_delete.ensures.lens bound short)) (search rules)
+    (plain_faults D (actions.Try c.args.number) old new c.from_residual.result (search rules) (λ spent. spent) (λ takes. takes)) frame.form
+    (kept_by_deletes D.told (actions.Try c.args.number) (D.view old.outside) (D.view new.outside) tt frame.below.watched frame.below) (λ only. absurd only)

@@ -25,8 +25,8 @@ returns g c = λ ids known are.
     let same : commit.segments ≡ segments = ap (λ (k : Commit). k.segments) made.commit in
     let line_is : told.items ≡ commit_line catalog.next segments =
     c.in_ok-line.ensures.line ∙ c.in_ok-answer.ensures
-    ∙ ap (λ (n : ℕ). line (codes "commit") (decimal n ∷ decimal c.len.result ∷ [])) (c.opstamp.ensures ∙ number)
-    ∙ ap (λ (n : ℕ). line (codes "commit") (decimal catalog.next ∷ decimal n ∷ [])) (c.len.ensures ∙ ap length same) in
+    ∙ ap (λ (n : ℕ). line (codes "commit") (decimal n ∷ decimal c.len-count.result ∷ [])) (c.opstamp.ensures ∙ number)
+    ∙ ap (λ (n : ℕ). line (codes "commit") (decimal catalog.next ∷ decimal n ∷ [])) c.len-count.ensures.len in
     let fits : length told.items ≤ vec_capacity told = search rules in
     record {
       steps = λ s m deletes.
@@ -39,7 +39,7 @@ returns g c = λ ids known are.
       ready = record {
         prints = record {
           opstamp = number;
-          sound = made.sound c.requires.sound;
+          sound = made.sound c.len-count.ensures.ordered c.requires.sound;
           blocksize = subst (λ (x : Settings). x.blocksize < 18446744073709551616) c.settings.ensures c.print.ensures.blocksize;
           text_is =
               c.in_ok-text.ensures.text

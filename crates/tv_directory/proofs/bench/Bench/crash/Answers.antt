@@ -1,6 +1,6 @@
 use Rattle.std.proofs.Common.{refl, sym}
-use Rattle.tv_directory.specs.Ram.{ram_reads}
-use Rattle.tv_directory.specs.StoredFiles.{reads_of}
+use Rattle.tv_device.specs.Ram.{ram_reads}
+use Rattle.tv_device.specs.StoredFiles.{reads_of}
 use Rattle.tv_directory.proofs.Crashed.{left_is_image}
 use Rattle.tv_directory.proofs.Resting.{rests_soundly}
 use Rattle.tv_directory.proofs.bench.Bench.crash.Goals as goal

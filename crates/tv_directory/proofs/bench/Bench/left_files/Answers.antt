@@ -1,5 +1,5 @@
 use Rattle.std.proofs.Common.{◌∙◌, refl, ap}
-use Rattle.tv_directory.specs.StoredFiles.{reads_of}
+use Rattle.tv_device.specs.StoredFiles.{reads_of}
 use Rattle.tv_directory.proofs.Crashed.{leaves_all, leaves_none, leaves_one, next_number, not_yet}
 use Rattle.tv_directory.proofs.bench.Bench.left_files.Goals as goal
 

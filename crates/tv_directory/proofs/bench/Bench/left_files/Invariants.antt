@@ -1,5 +1,5 @@
 use Rattle.std.proofs.Common.{◌≡◌}
-use Rattle.tv_directory.specs.StoredFiles.{AreSealed, reads_of}
+use Rattle.tv_device.specs.StoredFiles.{AreSealed, reads_of}
 use Rattle.tv_directory.proofs.Crashed.{LeavesFirst}
 use Rattle.tv_directory.proofs.bench.Bench.left_files.Given as goal
 

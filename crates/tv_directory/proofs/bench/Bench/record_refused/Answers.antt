@@ -1,5 +1,5 @@
 use Rattle.std.proofs.Common.{ap}
-use Rattle.tv_directory.specs.Ram.{ram_states}
+use Rattle.tv_device.specs.Ram.{ram_states}
 use Rattle.tv_directory.proofs.Recorded.{refused_by}
 use Rattle.tv_directory.proofs.bench.Bench.record_refused.Goals as goal
 

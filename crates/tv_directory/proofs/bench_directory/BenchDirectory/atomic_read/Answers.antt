@@ -1,5 +1,5 @@
 use Rattle.std.proofs.Common.{refl, ap}
-use Rattle.tv_directory.specs.Ram.{ram_states}
+use Rattle.tv_device.specs.Ram.{ram_states}
 use Rattle.tv_directory.proofs.Recorded.{kept_by}
 use Rattle.tv_directory.proofs.bench_directory.BenchDirectory.atomic_read.Goals as goal
 

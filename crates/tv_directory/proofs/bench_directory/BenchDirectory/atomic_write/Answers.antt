@@ -1,6 +1,6 @@
 use Rattle.std.proofs.Common.{◌∙◌, refl, sym, ap}
 use Rattle.tv_formats.specs.Files.{Same}
-use Rattle.tv_directory.specs.Ram.{ram_reads, ram_states}
+use Rattle.tv_device.specs.Ram.{ram_reads, ram_states}
 use Rattle.tv_directory.proofs.BenchCalls.{faults_numbered, gives_no_state, notes_nothing, numbered_failed, numbered_quietly}
 use Rattle.tv_directory.proofs.ShowsNothing.{gives_nothing, gives_quietly, memory_below, quiet_below}
 use Rattle.tv_directory.proofs.Benches.{begun, failed, follows_below, follows_done, follows_failed, frame_in, kept_aside, same_reads, same_ram, untold, untold_then}

@@ -1,7 +1,7 @@
 use Rattle.std.proofs.Common.{rules, ◌∙◌, refl, sym, ap}
 use Rattle.tv_base.specs.declared.open_errors.DeleteError.TheVariants as delete
 use Rattle.tv_directory.specs.Device.{after_refusal}
-use Rattle.tv_directory.specs.Ram.{ram_states}
+use Rattle.tv_device.specs.Ram.{ram_states}
 use Rattle.tv_directory.proofs.BenchCalls.{deletes_no_state, deleting_below, refused_rose}
 use Rattle.tv_directory.proofs.Benches.{begun, deleting_in, follows_below, follows_done, same_ram, untold_then}
 use Rattle.tv_directory.proofs.Recorded.{kept_by, may_add, read_there, replaced_by, unchanged}

@@ -2,7 +2,7 @@ use Rattle.std.proofs.Common.{rules, ◌≡◌, ◌∙◌, true, false, refl, sy
 use Rattle.tv_formats.specs.Disk.{Unsealed}
 use Rattle.tv_directory.specs.Bench.{disk_in}
 use Rattle.tv_formats.specs.Files.{Same}
-use Rattle.tv_directory.specs.Ram.{ram_lives, ram_reads, ram_states}
+use Rattle.tv_device.specs.Ram.{ram_lives, ram_reads, ram_states}
 use Rattle.tv_directory.specs.Record.{RecordedRefused}
 use Rattle.tv_directory.proofs.BenchCalls.{faults_numbered, gives_no_state, later_where, numbered_failed, numbered_quietly, writes_nothing}
 use Rattle.tv_directory.proofs.ShowsNothing.{flushes_nothing, flushes_quietly, memory_below, quiet_below, still_there}
@@ -61,7 +61,7 @@ returns-then-refuses-clause-images g c =
     let wrote = c.in_ok-record_refused_where.ensures in
     record {
       there = made_there c.args.self.now.ram.files.map.entries c.args.writer.now.name c.args.writer.now.number;
-      gives = λ lives. let one : RecordedRefused (disk_in c.args.self.now) (disk_in c.record_refused_where.new.self) c.args.writer.now.name Unsealed = rw (c.as_str.ensures.text, c.unsealed.ensures) at wrote.images (rw c.is_made-lives.ensures lives) in record { ok = tt; err = (c.fault.ensures.fault.0, one.sets); no_more = one.adds.no_more; time = one.adds.time };
+      gives = λ lives. let one : RecordedRefused (disk_in c.args.self.now) (disk_in c.record_refused_where.new.self) c.args.writer.now.name Unsealed = rw (c.as_str.ensures.text, c.name.ensures, c.unsealed.ensures) at wrote.images (rw c.is_made-lives.ensures lives) in record { ok = tt; err = (c.fault.ensures.fault.0, one.sets); no_more = one.adds.no_more; time = one.adds.time };
       gone = λ isnt. kept_by _ _ _ _ _ (ap (λ b. ram_states b.ram) wrote.others) (ap (λ b. b.recorded.calls) (wrote.gone (rw c.is_made-lives.ensures isnt))) (λ n. refl);
     }
 
@@ -159,6 +159,6 @@ returns-clause-images g c =
     let ram = ap (λ b. b.ram) c.before-2.ensures.others in
     let lives : ram_lives c.args.self.now.ram c.args.writer.now ≡ true = search rules in
     let (name, before) = c.in_ok-name.ensures.found in
-    let text = c.as_str-2.ensures.text in
+    let text = c.as_str-2.ensures.text ∙ c.name-2.ensures in
     let one = replaced_by _ _ _ c.in_ok-name.before _ _ _ _ (ap (λ b. ram_states b.ram) c.before-2.ensures.others) (rw text at before) (c.in_ok-flush.ensures.states (rw ram lives)).ok (rw (c.before-2.ensures.calls, name, text) at c.add.ensures.calls) in
     record { there = made_there c.args.self.now.ram.files.map.entries c.args.writer.now.name c.args.writer.now.number; gives = λ _. record { ok = one.sets; err = tt; no_more = one.adds.no_more; time = one.adds.time }; gone = λ isnt. absurd (true≢false (sym lives ∙ isnt)) }

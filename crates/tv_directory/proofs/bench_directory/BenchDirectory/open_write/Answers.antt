@@ -1,6 +1,6 @@
 use Rattle.std.proofs.Common.{rules, ◌∙◌, refl, sym, ap, inl}
 use Rattle.tv_base.specs.declared.open_errors.OpenWriteError.TheVariants as write
-use Rattle.tv_directory.specs.Ram.{ram_states}
+use Rattle.tv_device.specs.Ram.{ram_states}
 use Rattle.tv_directory.proofs.BenchCalls.{faulted_rose, opening_below, opens_no_state}
 use Rattle.tv_directory.proofs.Benches.{begun, failed, follows_below, follows_done, follows_failed, kept_aside, kept_in, same_reads, same_ram, untold, untold_then}
 use Rattle.tv_directory.proofs.Recorded.{kept_by, replaced_by, unread_absent}

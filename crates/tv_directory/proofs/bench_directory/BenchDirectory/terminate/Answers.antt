@@ -1,6 +1,6 @@
 use Rattle.std.proofs.Common.{rules, ◌≡◌, ◌∙◌, true, false, refl, sym, ap, true≢false}
 use Rattle.tv_formats.specs.Files.{Same}
-use Rattle.tv_directory.specs.Ram.{ram_lives, ram_reads, ram_states}
+use Rattle.tv_device.specs.Ram.{ram_lives, ram_reads, ram_states}
 use Rattle.tv_directory.proofs.BenchCalls.{faults_numbered, gives_no_state, later_where, numbered_failed, numbered_quietly, writes_nothing}
 use Rattle.tv_directory.proofs.ShowsNothing.{memory_below, quiet_below, seals_nothing, seals_quietly}
 use Rattle.tv_directory.proofs.Benches.{begun, failed, follows_below, follows_done, follows_failed, kept_aside, kept_in, same_reads, same_ram, untold_then}
@@ -144,6 +144,6 @@ returns-clause-images g c =
     let ram = ap (λ b. b.ram) c.before-2.ensures.others in
     let lives : ram_lives c.args.self.now.ram c.args.writer ≡ true = search rules in
     let (name, before) = c.in_ok-name.ensures.found in
-    let text = c.as_str.ensures.text in
+    let text = c.as_str.ensures.text ∙ c.name.ensures in
     let one = replaced_by _ _ _ c.in_ok-name.before _ _ _ _ (ap (λ b. ram_states b.ram) c.before-2.ensures.others) (rw text at before) (c.in_ok-terminate.ensures.states (rw ram lives)).ok (rw (c.before-2.ensures.calls, name, text) at c.add.ensures.calls) in
     record { there = made_there c.args.self.now.ram.files.map.entries c.args.writer.name c.args.writer.number; gives = λ _. record { ok = one.sets; err = tt; no_more = one.adds.no_more; time = one.adds.time }; gone = λ isnt. absurd (true≢false (sym lives ∙ isnt)) }

@@ -1,4 +1,4 @@
-use Rattle.tv_directory.specs.Ram.{ram_states}
+use Rattle.tv_device.specs.Ram.{ram_states}
 use Rattle.tv_directory.proofs.Recorded.{told}
 use Rattle.tv_directory.proofs.bench_directory.BenchOutside.tell.Goals as goal
 

@@ -1,7 +1,7 @@
 use Rattle.std.proofs.Common.{◌∙◌, None, refl, sym, ap, subst}
 use Rattle.tv_managed.specs.Names.{ManagedNames}
 use Rattle.tv_formats.specs.Listing.{Listing}
-use Rattle.tv_directory.specs.ViewLaws.{reads_then}
+use Rattle.tv_device.specs.ViewLaws.{reads_then}
 use Rattle.tv_index.specs.Crashes.{OnlyLooks}
 use Rattle.tv_index.proofs.Indexes.{loads_before}
 use Rattle.tv_index.proofs.OpenedSafely.{failed_match, looks_read}

@@ -1,11 +1,11 @@
 use Rattle.std.proofs.Common.{◌≡◌, ◌≤◌, ◌∙◌, All, List, Some, ap, map, sym, subst}
 use Rattle.tv_formats.specs.Names.{meta_name}
 use Rattle.tv_formats.specs.Segments.{num_deleted}
-use Rattle.tv_index.specs.declared.segment_meta.InnerSegmentMeta.{InnerSegmentMeta}
+use Rattle.tv_metas.specs.declared.segment_meta.InnerSegmentMeta.{InnerSegmentMeta}
 use Rattle.tv_index.specs.Indexes.{IndexState, MeansSuch}
-use Rattle.tv_index.specs.Segments.{entry_of}
+use Rattle.tv_metas.specs.Segments.{entry_of}
 use Rattle.tv_index.specs.Standing.{MetaFaults}
-use Rattle.tv_index.specs.Tracked.{TrackAll}
+use Rattle.tv_metas.specs.Tracked.{TrackAll}
 use Rattle.tv_index.proofs.Indexes.{all_within, shares_mean}
 use Rattle.tv_index.proofs.Standings.{meta_fails}
 use Rattle.tv_index.proofs.index.Index.searchable_segments.Goals as goal

@@ -2,9 +2,9 @@ use Rattle.std.proofs.Common.{◌∙◌, ℕ, List, filter, map, string_bytes, a
 use Rattle.std.specs.List.{flat_map}
 use Rattle.std.proofs.lemmas.Result.{IfOk-weaker}
 use Rattle.tv_base.specs.declared.error.TantivyError.TheVariants as errors
-use Rattle.tv_directory.specs.Images.{KeepsDisk}
-use Rattle.tv_directory.specs.View.{OnlyReads}
-use Rattle.tv_directory.specs.ViewLaws.{reads_then}
+use Rattle.tv_device.specs.Images.{KeepsDisk}
+use Rattle.tv_device.specs.View.{OnlyReads}
+use Rattle.tv_device.specs.ViewLaws.{reads_then}
 use Rattle.tv_managed.specs.Names.{ManagedNames}
 use Rattle.tv_managed.specs.TrackLaws.{keeps_then}
 use Rattle.tv_formats.specs.Segments.{segment_names}
@@ -12,8 +12,8 @@ use Rattle.tv_formats.specs.Names.{has, meta_name}
 use Rattle.tv_formats.proofs.Results.{no_answer}
 use Rattle.tv_index.specs.Checksums.{AreDamaged, ValidateFaults, looked_at}
 use Rattle.tv_index.specs.Indexes.{IndexState, KeepsIndex, MeansSuch}
-use Rattle.tv_index.specs.Segments.{entry_of}
-use Rattle.tv_index.specs.declared.segment_meta.InnerSegmentMeta.{InnerSegmentMeta}
+use Rattle.tv_metas.specs.Segments.{entry_of}
+use Rattle.tv_metas.specs.declared.segment_meta.InnerSegmentMeta.{InnerSegmentMeta}
 use Rattle.tv_index.proofs.Damages.{damaged_files, validate_fails, validate_faults}
 use Rattle.tv_index.proofs.Indexes.{keeps_index}
 use Rattle.tv_index.proofs.index.Index.validate_checksum.Goals as goal

@@ -4,7 +4,7 @@ use Rattle.tv_managed.proofs.Beginning.{begun_safely}
 use Rattle.tv_managed.proofs.Giving.{settles_asked, settles_none}
 use Rattle.tv_managed.specs.TrackLaws.{listed_read, track_read}
 use Rattle.tv_managed.proofs.Failing.{collect_begun, collect_locked}
-use Rattle.tv_directory.specs.ViewLaws.{reads_then}
+use Rattle.tv_device.specs.ViewLaws.{reads_then}
 use Rattle.tv_managed.proofs.Results.{handed}
 use Rattle.tv_managed.proofs.managed_directory.ManagedDirectory.ask_and_begin.Goals as goal
 

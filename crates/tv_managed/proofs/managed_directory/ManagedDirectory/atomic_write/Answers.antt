@@ -6,8 +6,8 @@ use Rattle.tv_formats.proofs.Results.{handed_on}
 use Rattle.tv_managed.proofs.Collections.{done_held}
 use Rattle.tv_managed.proofs.Making.{manages_by, manages_unlisted, others_written}
 use Rattle.tv_managed.proofs.Giving.{given_safely, gives_safely, listed_safely, wanted_given, wanted_list}
-use Rattle.tv_directory.specs.Calls.{IoFaults}
-use Rattle.tv_directory.specs.TouchLaws.{others_given}
+use Rattle.tv_device.specs.Calls.{IoFaults}
+use Rattle.tv_device.specs.TouchLaws.{others_given}
 use Rattle.tv_managed.specs.Frames.{KeptButNotes}
 use Rattle.tv_managed.specs.Managed.{GivesFile}
 use Rattle.tv_managed.proofs.Writing.{gives_listed, gives_written, io_then, notes_listed, notes_written}

@@ -1,6 +1,6 @@
 use Rattle.std.proofs.Common.{subst, sym, refl, rules, ℕ, Ok}
-use Rattle.tv_directory.specs.View.{OnlyReads}
-use Rattle.tv_directory.specs.ViewLaws.{kept_itself}
+use Rattle.tv_device.specs.View.{OnlyReads}
+use Rattle.tv_device.specs.ViewLaws.{kept_itself}
 use Rattle.tv_base.specs.declared.error.TantivyError.{TantivyError}
 use Rattle.tv_managed.specs.Crashes.{SettlesStates}
 use Rattle.tv_managed.proofs.Giving.{settled_so, settles_none}

@@ -7,7 +7,7 @@ use Rattle.tv_managed.specs.Crashes.{CollectsNames}
 use Rattle.tv_managed.specs.Names.{ManagedNames}
 use Rattle.tv_managed.proofs.AtOnce.{Far, at_far, collects_all, collects_far, collects_none, collects_unended, far, given_back, may_give_back}
 use Rattle.tv_managed.proofs.Tried.{tried_none}
-use Rattle.tv_directory.specs.View.{MayDelete}
+use Rattle.tv_device.specs.View.{MayDelete}
 use Rattle.tv_managed.proofs.Failing.{collect_ended, collect_on, collect_unended, collect_wanted, deletes_kept, deletes_then}
 use Rattle.tv_managed.proofs.Results.{handed}
 use Rattle.tv_managed.proofs.managed_directory.ManagedDirectory.garbage_collect.Goals as goal

@@ -10,9 +10,9 @@ use Rattle.tv_managed.proofs.Listing.{lists_asked}
 use Rattle.tv_managed.proofs.Giving.{absent_unread, creates_safely, gains_still, given_safely, listed_safely, wanted_opened}
 use Rattle.tv_managed.specs.TrackLaws.{listed_read, track_read}
 use Rattle.tv_managed.proofs.Touching.{gained_none}
-use Rattle.tv_directory.specs.ViewLaws.{kept_then}
-use Rattle.tv_directory.specs.View.{Kept}
-use Rattle.tv_directory.specs.TouchLaws.{others_opened}
+use Rattle.tv_device.specs.ViewLaws.{kept_then}
+use Rattle.tv_device.specs.View.{Kept}
+use Rattle.tv_device.specs.TouchLaws.{others_opened}
 use Rattle.tv_managed.proofs.Creating.{StaysAbsent, creates_asked, creates_listed, creates_made, creates_refused, faults_made, faults_opened, is_free}
 use Rattle.tv_managed.proofs.Results.{handed}
 use Rattle.tv_managed.proofs.managed_directory.ManagedDirectory.open_write.Goals as goal

@@ -4,7 +4,7 @@ use Rattle.tv_formats.specs.Collections.{without}
 use Rattle.tv_formats.specs.Files.{KeepsOthers}
 use Rattle.tv_formats.specs.Names.{byte_cmp, has, is_undotted, list_name}
 use Rattle.tv_formats.proofs.Entries.{has_inserted, has_kept, insert_present}
-use Rattle.tv_directory.specs.View.{Kept}
+use Rattle.tv_device.specs.View.{Kept}
 use Rattle.tv_managed.specs.Managed.{Covers, NeedsNoListing, registered, registering}
 use Rattle.tv_managed.specs.Names.{AreManaged, ManagedNames}
 use Rattle.tv_managed.proofs.Removals.{without_inserted}

@@ -13,9 +13,9 @@ use Rattle.tv_managed.specs.TrackLaws.{keeps_then, track_read, track_then}
 use Rattle.tv_managed.proofs.Tracking.{listed_by_within, listed_file, track_from, track_same}
 use Rattle.tv_formats.proofs.DiskLaws.{touches_more, touches_same, touches_then}
 use Rattle.tv_managed.proofs.Touching.{added_written, adds_run, gained_more, gained_none, gained_one, gained_same, gained_then, keeps_same, time_written, track_written}
-use Rattle.tv_directory.specs.Calls.{IoFaults}
-use Rattle.tv_directory.specs.ViewLaws.{kept_itself, kept_then}
-use Rattle.tv_directory.specs.TouchLaws.{reads_touch, touches_by}
+use Rattle.tv_device.specs.Calls.{IoFaults}
+use Rattle.tv_device.specs.ViewLaws.{kept_itself, kept_then}
+use Rattle.tv_device.specs.TouchLaws.{reads_touch, touches_by}
 use Rattle.tv_managed.specs.Managed.{SealsBody}
 use Rattle.tv_managed.proofs.Writing.{io_none, io_on, io_then, names_kept, seals_none, seals_unwritten}
 use Rattle.tv_managed.proofs.Results.{handed}

@@ -4,9 +4,9 @@ use Rattle.tv_base.specs.Errors.{of_lock}
 use Rattle.tv_base.specs.declared.error.TantivyError.{TantivyError}
 use Rattle.tv_base.specs.declared.open_errors.LockError.{LockError}
 use Rattle.tv_base.specs.declared.open_errors.LockError.TheVariants as lock
-use Rattle.tv_directory.specs.Calls.{LockFaults}
-use Rattle.tv_directory.specs.ViewLaws.{tells_then}
-use Rattle.tv_directory.specs.declared.directory.Directory.{Ghosts}
+use Rattle.tv_device.specs.Calls.{LockFaults}
+use Rattle.tv_device.specs.ViewLaws.{tells_then}
+use Rattle.tv_device.specs.declared.directory.Directory.{Ghosts}
 use Rattle.tv_managed.specs.Collecting.{LockedFaults, meta_lock_name}
 use Rattle.tv_managed.specs.Names.{ManagedNames}
 use Rattle.tv_managed.specs.TrackLaws.{keeps_then}

@@ -1,7 +1,7 @@
 use Rattle.std.proofs.Common.{refl, subst, ap, ◌∙◌}
 use Rattle.tv_managed.proofs.Giving.{read_from}
 use Rattle.tv_managed.specs.TrackLaws.{safe_read}
-use Rattle.tv_directory.specs.Calls.{Appends, IoFaults, Touches}
+use Rattle.tv_device.specs.Calls.{Appends, IoFaults, Touches}
 use Rattle.tv_managed.specs.Writers.{HandsOn}
 use Rattle.tv_managed.proofs.Writing.{appends_on, hands_on_refused, hands_on_written, io_on, names_kept}
 use Rattle.tv_managed.proofs.Results.{handed}

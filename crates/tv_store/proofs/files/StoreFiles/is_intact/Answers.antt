@@ -6,7 +6,7 @@ use Rattle.tv_store.proofs.KnownFiles.{same_there}
 use Rattle.tv_store.proofs.OpenFiles.{is_open, still_files, AreFiles}
 use Rattle.tv_store.proofs.Removals.{had}
 use Rattle.tv_store.proofs.ReportEvents.{fault_intact, intact_answer, left_intact, open_intact, tells_intact}
-use Rattle.tv_directory.specs.View.{OnlyReads}
+use Rattle.tv_device.specs.View.{OnlyReads}
 use Rattle.tv_store.proofs.KeptFiles.{kept_files}
 use Rattle.tv_store.proofs.files.StoreFiles.is_intact.Goals as goal
 use Rattle.tv_store.proofs.files.StoreFiles.is_intact.Goals.{then-contains_key-via-then-contains_key, then-contains_key-via-else-contains_key+then-contains}

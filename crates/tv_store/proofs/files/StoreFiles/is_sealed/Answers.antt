@@ -4,7 +4,7 @@ use Rattle.tv_formats.specs.Names.{has}
 use Rattle.tv_store.proofs.KnownFiles.{same_there}
 use Rattle.tv_store.proofs.OpenFiles.{still_files, is_open, known_answer, open_answer, left_answer, sealed_answer, AreFiles}
 use Rattle.tv_store.proofs.Removals.{had}
-use Rattle.tv_directory.specs.View.{OnlyReads}
+use Rattle.tv_device.specs.View.{OnlyReads}
 use Rattle.tv_store.proofs.KeptFiles.{kept_files}
 use Rattle.tv_store.proofs.files.StoreFiles.is_sealed.Goals as goal
 use Rattle.tv_store.proofs.files.StoreFiles.is_sealed.Goals.{then-contains_key-via-then-contains_key, then-contains_key-via-else-contains_key+then-contains}

@@ -1,6 +1,6 @@
 use Rattle.std.proofs.Common.{ap, [], refl, ◌∙◌}
 use Rattle.tv_formats.proofs.Results.{on_err}
-use Rattle.tv_directory.specs.View.{Kept, WriterState}
+use Rattle.tv_device.specs.View.{Kept, WriterState}
 use Rattle.tv_managed.specs.Writers.{IsNewManaged}
 use Rattle.tv_store.specs.Kept.{names_below}
 use Rattle.tv_store.proofs.KeptFiles.{kept_made, wants_then}

@@ -10,7 +10,7 @@ use Rattle.tv_store.proofs.KnownFiles.{same_there}
 use Rattle.tv_store.proofs.OpenFiles.{still_files, AreFiles}
 use Rattle.tv_store.specs.StoreCauses.{MakesNoFile}
 use Rattle.tv_store.proofs.ReaderEvents.{body_fails, reads_make_none}
-use Rattle.tv_directory.specs.View.{OnlyReads}
+use Rattle.tv_device.specs.View.{OnlyReads}
 use Rattle.tv_store.proofs.KeptFiles.{kept_files}
 use Rattle.tv_store.proofs.files.StoreFiles.open_read.Goals as goal
 

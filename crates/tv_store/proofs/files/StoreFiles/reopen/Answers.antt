@@ -1,7 +1,7 @@
 use Rattle.std.proofs.Common.{◌||◌, is_some, refl, sym, ap, ◌∙◌}
 use Rattle.tv_formats.specs.Names.{has, at}
 use Rattle.tv_store.proofs.OpenFiles.{bodies, is_open}
-use Rattle.tv_store.proofs.Removals.{on_ok_weaker}
+use Rattle.std.proofs.lemmas.Result.{on_ok_weaker}
 use Rattle.tv_store.proofs.files.StoreFiles.reopen.Goals as goal
 
 pub returns-clause-reopened : goal.returns-clause-reopened

@@ -3,7 +3,7 @@ use Rattle.std.specs.Prelude.{option_map}
 use Rattle.std.proofs.lemmas.Result.{err_from_is_err_and}
 use Rattle.tv_machine.specs.Machine.{catalog_step}
 use Rattle.tv_machine.specs.State.{Catalog, StepResult}
-use Rattle.tv_directory.specs.View.{OnlyReads}
+use Rattle.tv_device.specs.View.{OnlyReads}
 use Rattle.tv_store.specs.Acting.{Acts}
 use Rattle.tv_store.specs.Applying.{AsksNoFile}
 use Rattle.tv_store.specs.Exhausted.{SpendsSearcher}

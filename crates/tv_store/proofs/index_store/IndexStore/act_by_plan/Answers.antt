@@ -7,16 +7,16 @@ use Rattle.tv_store.proofs.ActsPlanned.{answered, saved_none, store_of, unperfor
 use Rattle.tv_store.proofs.Asking.{asked_files, kept_by_files}
 use Rattle.tv_store.proofs.index_store.IndexStore.act_by_plan.Goals as goal
 
-pub returns-in_err-action : goal.returns-in_err-action
-returns-in_err-action g c =
+pub returns-in_err-action-clause-acts : goal.returns-in_err-action-clause-acts
+returns-in_err-action-clause-acts g c =
     let D = g.O.Directory in
     let e = err_from_is_err_and c.from_residual.result c.from_residual.ensures.1 in
     rw (e.1, e.2)
     (subst (λ v. Acts D v v c.args.event.now (Err c.in_err-action.field-0.0)) c.self.view_is
     (unplanned D c.self.inside.catalog (record { is_open = c.self.inside.is_open }) c.self.inside.files c.args.event.now c.in_err-action.field-0.0 c.in_err-action.ensures.cause))
 
-pub returns-in_err-ready : goal.returns-in_err-ready
-returns-in_err-ready g c =
+pub returns-in_err-ready-clause-acts : goal.returns-in_err-ready-clause-acts
+returns-in_err-ready-clause-acts g c =
     let D = g.O.Directory in
     let e = err_from_is_err_and c.from_residual-in_err-ready.result c.from_residual-in_err-ready.ensures.1 in
     rw (e.1, e.2)
@@ -30,8 +30,8 @@ perform-requires g c = (
   subst (λ kept. CanPerform kept c.in_ok-action.field-0.action) (sym (kept_by_files c.self.inside.catalog (asked_files c.ready.ensures.room))) c.in_ok-action.ensures.plans.ready,
 )
 
-pub returns-in_err-reply : goal.returns-in_err-reply
-returns-in_err-reply g c =
+pub returns-in_err-reply-clause-acts : goal.returns-in_err-reply-clause-acts
+returns-in_err-reply-clause-acts g c =
     let D = g.O.Directory in
     let e = err_from_is_err_and c.from_residual-in_err-reply.result c.from_residual-in_err-reply.ensures.1 in
     rw (e.1, e.2)
@@ -39,8 +39,8 @@ returns-in_err-reply g c =
     (unperformed D c.self.inside.catalog (record { is_open = c.self.inside.is_open }) c.self.inside.files c.args.event.now c.in_ok-action.field-0 c.in_ok-action.ensures.plans c.ready.new.self (asked_files c.ready.ensures.room)
     c.ready.ensures.room.managed.below.faults c.perform.new.files c.in_err-reply.field-0.0 c.in_err-reply.ensures))
 
-pub returns-in_err-settle : goal.returns-in_err-settle
-returns-in_err-settle g c =
+pub returns-in_err-settle-clause-acts : goal.returns-in_err-settle-clause-acts
+returns-in_err-settle-clause-acts g c =
     let D = g.O.Directory in
     let e = err_from_is_err_and c.from_residual-in_err-settle.result c.from_residual-in_err-settle.ensures.1 in
     rw (e.1, e.2)
@@ -48,8 +48,8 @@ returns-in_err-settle g c =
     (unsettled D c.self.inside.catalog (record { is_open = c.self.inside.is_open }) c.self.inside.files c.args.event.now c.in_ok-action.field-0 c.in_ok-action.ensures.plans c.ready.new.self (asked_files c.ready.ensures.room)
     c.ready.ensures.room.managed.below.faults c.perform.new.files c.settle.new.self c.in_ok-reply.reply c.in_ok-reply.ensures (saved_none c.in_ok-reply.reply c.in_err-settle.ensures.saved)))
 
-pub returns : goal.returns
-returns g c =
+pub returns-clause-acts : goal.returns-clause-acts
+returns-clause-acts g c =
     let D = g.O.Directory in
     let small : length c.line_of-answer.result ≤ c.capacity.result = search rules in
     let made : c.capacity.result < (D.view c.ready.new.self.outside).room = c.in_ok-ready.ensures.room.managed.below.made in

@@ -2,7 +2,7 @@ use Rattle.std.proofs.Common.{ℕ, Ok, Err, refl, subst}
 use Rattle.std.specs.Prelude.{IsSome}
 use Rattle.std.proofs.lemmas.Result.{err_from_is_err_and}
 use Rattle.tv_base.specs.declared.error.TantivyError.TheVariants as errors
-use Rattle.tv_directory.specs.View.{OnlyReads}
+use Rattle.tv_device.specs.View.{OnlyReads}
 use Rattle.tv_formats.specs.Files.{Rose}
 use Rattle.tv_machine.specs.Machine.{catalog_step}
 use Rattle.tv_store.specs.Acting.{Acts}

@@ -1,5 +1,5 @@
 use Rattle.std.proofs.Common.{subst}
-use Rattle.tv_directory.specs.Calls.{Frees}
+use Rattle.tv_device.specs.Calls.{Frees}
 use Rattle.tv_store.proofs.Opened.{opened_faults, opened_frame, opened_locks, opened_opens, opened_safely, opened_tells}
 use Rattle.tv_store.proofs.Opened.{unbegun_faults, unbegun_frame, unbegun_leaves, unbegun_locks, unbegun_safely, unbegun_tells}
 use Rattle.tv_store.proofs.Unopened.{unopened_leaves, unopened_tells, unopened_locks, unopened_fails, unopened_stays, unopened_safely}

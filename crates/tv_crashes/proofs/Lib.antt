@@ -1,0 +1,5 @@
+pub mod StoredImages
+pub mod ToldLines
+pub mod RunsTold
+pub mod ComputedCrashes
+pub mod StoredSound

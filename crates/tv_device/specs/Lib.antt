@@ -1,0 +1,14 @@
+pub mod Watch
+pub mod WatchList
+pub mod Locks
+pub mod Telling
+pub mod View
+pub mod ViewLaws
+pub mod Calls
+pub mod StoredFiles
+pub mod Ram
+pub mod Persisting
+pub mod DirWriters
+pub mod Desk
+pub mod Images
+pub mod TouchLaws

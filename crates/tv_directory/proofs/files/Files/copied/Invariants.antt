@@ -1,5 +1,0 @@
-use Rattle.tv_directory.proofs.CopiedFiles.{CopiesRest}
-use Rattle.tv_directory.proofs.files.Files.copied.Given as goal
-
-abbrev pub invariant-loop-name : goal.invariant-loop-name
-invariant-loop-name l = CopiesRest l.self.map.entries l.name-iterator l.map.entries

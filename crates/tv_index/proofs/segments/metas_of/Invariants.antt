@@ -1,6 +1,0 @@
-use Rattle.std.proofs.Common.{◌≡◌, map}
-use Rattle.tv_index.specs.Segments.{entry_of}
-use Rattle.tv_index.proofs.segments.metas_of.Given as goal
-
-abbrev pub invariant-loop-id : goal.invariant-loop-id
-invariant-loop-id l = map entry_of l.segments.items ≡ map (λ e. (e.0.now, e.1.now)) l.yielded

@@ -1,7 +1,0 @@
-use Rattle.std.proofs.Common.{◌≡◌, ◌++◌, drop}
-use Rattle.tv_index.specs.declared.stripping.Place.TheVariants.{Outside}
-use Rattle.tv_index.specs.Stripping.{stripped_from}
-use Rattle.tv_index.proofs.stripping.without_blanks.Given as goal
-
-abbrev pub invariant-loop-byte : goal.invariant-loop-byte
-invariant-loop-byte l = stripped_from Outside l.text ≡ l.kept.items ++ stripped_from l.place (drop l.byte-index l.text)

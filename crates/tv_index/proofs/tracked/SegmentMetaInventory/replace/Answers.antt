@@ -1,8 +1,0 @@
-use Rattle.std.proofs.Common.{All, ap, sym, subst}
-use Rattle.tv_index.specs.Tracked.{IsWithin, KeptMetas}
-use Rattle.tv_index.proofs.KeptWithin.{within_released}
-use Rattle.tv_index.proofs.tracked.SegmentMetaInventory.replace.Goals as goal
-
-pub invariant_of-self : goal.invariant_of-self
-invariant_of-self c =
-    subst (λ (es : KeptMetas). All IsWithin es) (sym (ap (λ state. state.entries) c.release.ensures.released)) (within_released c.args.former c.self.inside.segments.entries c.self.invariant)

@@ -1,7 +1,0 @@
-use Rattle.std.proofs.Common.{sym, subst}
-use Rattle.std.specs.Prelude.{All}
-use Rattle.tv_index.specs.Tracked.{IsWithin}
-use Rattle.tv_index.proofs.tracked.SegmentMetaInventory.track.Goals as goal
-
-pub invariant_of-self : goal.invariant_of-self
-invariant_of-self c = subst (λ state. All IsWithin state.entries) (sym c.in_err-ticket.ensures.err) c.self.invariant

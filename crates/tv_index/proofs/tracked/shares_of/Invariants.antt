@@ -1,6 +1,0 @@
-use Rattle.std.proofs.Common.{◌≡◌, map, take}
-use Rattle.tv_index.specs.Tracked.{share_of}
-use Rattle.tv_index.proofs.tracked.shares_of.Given as goal
-
-abbrev pub invariant-loop-entry : goal.invariant-loop-entry
-invariant-loop-entry l = l.shares.items ≡ map share_of (take l.entry-index l.entries)

@@ -1,0 +1,21 @@
+use Rattle.std.proofs.Common.{rules, append_assoc}
+use Rattle.tv_metas.proofs.printing.write_segment.Goals as goal
+
+pub returns : goal.returns
+returns c = (
+  search rules,
+  rw (
+    c.in_ok-end_object.ensures.ok,
+    c.in_ok-write_deletes.ensures.1,
+    c.in_ok-key-3.ensures.ok,
+    c.in_ok-u64.ensures.ok,
+    c.from.ensures,
+    c.in_ok-key-2.ensures.ok,
+    c.in_ok-string.ensures.ok,
+    c.as_str.ensures.value,
+    c.in_ok-id.ensures,
+    c.in_ok-key.ensures.ok,
+    c.in_ok-begin_object.ensures.ok,
+  )
+      (simp append_assoc),
+)

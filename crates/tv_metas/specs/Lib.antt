@@ -1,0 +1,15 @@
+pub mod Settings
+pub mod Reads
+pub mod Stripping
+pub mod SchemaReading
+pub mod Schemas
+pub mod Segments
+pub mod Metas
+pub mod MetaReading
+pub mod Parsing
+pub mod Choosing
+pub mod Printed
+pub mod Printing
+pub mod Tracked
+pub mod TrackedMetas
+pub mod Laws
