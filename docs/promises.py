@@ -1,7 +1,8 @@
 #!/usr/bin/env python3
 """Prints what each public call promises, in the words of its clauses' definitions.
 
-    python3 docs/promises.py [CRATE] [NAME]     the calls of all crates, of one, or those of this name
+    python3 docs/promises.py [CRATE] [NAME]     the calls of all crates, of one, or those of this name, also of a type that
+                                                the crate hands on
     python3 docs/promises.py --definitions      the files of definitions, lowest crate first
     python3 docs/promises.py --check            only what has no words
 
@@ -160,6 +161,12 @@ def exported(crate):
     for line in re.finditer(r"^pub use ([\w:]+)(?:::\{([^}]*)\})?;", text, re.M):
         names |= {it.strip() for it in line[2].split(",")} if line[2] else {line[1].split("::")[-1]}
     return names, modules
+
+
+def handed_on(crate):
+    """The crates below of which a crate hands names on."""
+    text = (CRATES / crate / "src" / "lib.rt").read_text(encoding="utf-8")
+    return [it for it in crates() if re.search(rf"^pub use {it}::", text, re.M)]
 
 
 def braces(text):
@@ -405,11 +412,15 @@ def main(words):
     if words == ["--definitions"]:
         show_definitions()
     is_check, is_named = words == ["--check"], len(words) == 2
+    below = handed_on(words[0]) if is_named and words[0] in crates() else []
     found = 0
     for crate in [] if words == ["--definitions"] else crates():
-        if words and not is_check and words[0] != crate:
+        if words and not is_check and crate not in [words[0], *below]:
             continue
         calls = [it for it in calls_of(crate) if not is_named or words[1] in (it.name, it.title())]
+        if crate in below:
+            names, _ = exported(words[0])
+            calls = [it for it in calls if (it.owner or it.name) in names]
         problems |= problems_of(calls, known)
         found += len(calls)
         if not is_check and calls:

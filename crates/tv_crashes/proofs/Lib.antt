@@ -3,3 +3,4 @@ pub mod ToldLines
 pub mod RunsTold
 pub mod ComputedCrashes
 pub mod StoredSound
+pub mod OpeningImages

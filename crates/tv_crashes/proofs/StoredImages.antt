@@ -1,13 +1,11 @@
 -- What an image shows of what is stored, and what stays so.
-use Rattle.std.proofs.Common.{◌≡◌, List, Option, Some, ℕ, refl, inl, inr, ⊎_elim, subst}
-use Rattle.tv_formats.specs.Commits.{IndexForm}
+use Rattle.std.proofs.Common.{◌≡◌, List, Option, Some, ℕ, inl, inr, ⊎_elim, subst}
 use Rattle.tv_formats.specs.Disk.{DiskState, Absent, Unsealed, Sealed, MayRead, Possible, IsImage}
 use Rattle.tv_formats.specs.Files.{Reads}
 use Rattle.tv_formats.specs.Names.{meta_name}
 use Rattle.tv_formats.proofs.DiskLaws.{HoldsOfFewer, fewer_listed}
 use Rattle.tv_formats.proofs.ListedImages.{images_list}
-use Rattle.tv_machine.specs.State.{State}
-use Rattle.tv_crashes.specs.Stored.{IsMetaOf, IsSafe, OneStays, ShowsEither, ShowsWhole, StateMeans, Stored, stored_of}
+use Rattle.tv_crashes.specs.Stored.{IsMetaOf, IsSafe, ShowsEither, ShowsWhole, StateMeans, Stored}
 
 -- ---- fewer possible states
 
@@ -22,26 +20,21 @@ fewer_safe before after old new within was = record {
         (λ of. inl (fewer_meta before meta within.each of))
         (λ of. inr (fewer_meta after meta within.each of))
         (was.stored.each meta (within.each meta_name meta is));
-    one_stays = was.stored.one_stays;
   };
 }
 
 -- ---- the one, and so it or another
 
--- an event changes the commit or the pins
-pub one_stays : (form : IndexForm) (s t : State) → OneStays (stored_of form s) (stored_of form t)
-one_stays form s t = inr refl
-
-pub safe_or : {before after : Stored} {possible : Possible} → OneStays before after → IsSafe before before possible → IsSafe before after possible
-safe_or one was = record {
+pub safe_or : {before after : Stored} {possible : Possible} → IsSafe before before possible → IsSafe before after possible
+safe_or was = record {
   listed = was.listed;
-  stored = record { each = λ meta is. ⊎_elim (λ of. inl of) (λ of. inl of) (was.stored.each meta is); one_stays = one };
+  stored = record { each = λ meta is. ⊎_elim (λ of. inl of) (λ of. inl of) (was.stored.each meta is) };
 }
 
-pub or_safe : {before after : Stored} {possible : Possible} → OneStays before after → IsSafe after after possible → IsSafe before after possible
-or_safe one was = record {
+pub or_safe : {before after : Stored} {possible : Possible} → IsSafe after after possible → IsSafe before after possible
+or_safe was = record {
   listed = was.listed;
-  stored = record { each = λ meta is. ⊎_elim (λ of. inr of) (λ of. inr of) (was.stored.each meta is); one_stays = one };
+  stored = record { each = λ meta is. ⊎_elim (λ of. inr of) (λ of. inr of) (was.stored.each meta is) };
 }
 
 -- ---- what an image shows

@@ -54,7 +54,8 @@ at_most x (piece ∷ heard) =
 pub none_by : (x : ℕ) (heard : Heard) → whole_lines heard ≡ [] → count_told_by x heard ≡ 0
 none_by x heard none = let most = at_most x heard in let e : length (whole_lines heard) ≡ 0 = ap length none in omega (arith, most, e)
 
-length_answers : (s : State) (turns : List Turn) → length (with_feeds (answers s turns)) ≡ length turns
+-- a run has an answer for each event
+pub length_answers : (s : State) (turns : List Turn) → length (with_feeds (answers s turns)) ≡ length turns
 length_answers s [] = refl
 length_answers s (turn ∷ turns) = ap suc (length_answers (step s turn.0 turn.1).1 turns)
 

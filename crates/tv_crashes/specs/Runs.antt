@@ -21,13 +21,14 @@ pub record Seen : Type 1 where
 -- ---- runs
 
 -- A run of which perhaps not every line was told: the whole lines that were told are the first of its
--- answers, and none was told before it began. At each moment at which so many of them have been told, what
--- that many events leave is stored, or what one event more leaves.
+-- answers, none was told before it began, and all of them were by its end. At each moment at which so many
+-- of them have been told, what that many events leave is stored, or what one event more leaves.
 pub record RunsSafely (form : IndexForm) (old new : Seen) (s : State) (turns : List Turn) : Type 0 where
   pub lines : Heard
   pub heard : new.heard ≡ old.heard ++ lines
   pub said : AreFirst (whole_lines lines) (with_feeds (answers s turns))
   pub none_before : (x : ℕ) → x < old.disk.moment → count_told_by x lines ≡ 0
+  pub all : (x : ℕ) → new.disk.moment ≤ x → count_told_by x lines ≡ length (whole_lines lines)
   pub later : old.disk.moment ≤ new.disk.moment
   -- what a crash before the run might leave stays as it was
   pub past : (x : ℕ) → x ≤ old.disk.moment → SamePossible (old.disk.possible x) (new.disk.possible x)
@@ -35,11 +36,10 @@ pub record RunsSafely (form : IndexForm) (old new : Seen) (s : State) (turns : L
       → IsSafe (stored_at form s turns (count_told_by x lines))
       (stored_at form s turns (count_told_by x lines + 1)) (new.disk.possible x)
 
--- a run all of whose lines have been told by its end
+-- a run all of whose answers have been told by its end
 pub record RunsWhole (form : IndexForm) (old new : Seen) (s : State) (turns : List Turn) : Type 0 where
   pub runs : RunsSafely form old new s turns
   pub whole : whole_lines runs.lines ≡ with_feeds (answers s turns)
-  pub all : (x : ℕ) → new.disk.moment ≤ x → count_told_by x runs.lines ≡ length turns
 
 -- The whole lines that were told are the first of the run's answers. A crash at a moment at which so many of
 -- them have been told leaves an image that shows whole what that many events leave, or what one event more

@@ -64,20 +64,16 @@ pub record HasOneState (possible : Possible) (c : Stored) : Type 0 where
   pub each : (n : List ℕ) → Requires c n
       → (bytes : List ℕ) × (c.bytes n ≡ Some bytes) × ((s : DiskState) → possible n s → s ≡ Sealed bytes)
 
--- `meta.json` in this state means the current commit, each of whose files has one possible state
+-- `meta.json` in this state means the current commit, and each required file, also of a pinned commit, has
+-- one possible state
 abbrev pub IsMetaOf : Possible → (meta : DiskState) → Stored → Type 0
 IsMetaOf possible meta c = StateMeans meta c × HasOneState possible c
 
--- the one and the other have the same commit, or the same pins: no event changes both
-abbrev pub OneStays : (before after : Stored) → Type 0
-OneStays before after = (before.commit ≡ after.commit) ⊎ (before.pins ≡ after.pins)
-
--- In each possible state `meta.json` means the commit of the one or of the other, each of whose files then
--- has one possible state.
+-- In each possible state `meta.json` means the commit of one of the two, and each file that this one
+-- requires, also of a pinned commit, then has one possible state.
 pub record IsStored (before after : Stored) (possible : Possible) : Type 0 where
   pub each : (meta : DiskState) → possible meta_name meta
       → IsMetaOf possible meta before ⊎ IsMetaOf possible meta after
-  pub one_stays : OneStays before after
 
 -- the one or the other is stored, and the list forgets no file
 pub record IsSafe (before after : Stored) (possible : Possible) : Type 0 where

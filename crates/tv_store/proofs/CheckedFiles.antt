@@ -16,9 +16,10 @@ use Rattle.tv_formats.specs.Files.{Heard, Reads, Rose, Same}
 use Rattle.tv_machine.specs.Lines.{opening_of}
 use Rattle.tv_formats.specs.Names.{has}
 use Rattle.tv_formats.specs.Segments.{all_required}
+use Rattle.tv_machine.specs.State.{Catalog}
 use Rattle.tv_store.specs.Bodies.{ReadsGoodFile, RefusesAt}
 use Rattle.tv_store.specs.Kept.{FilesState}
-use Rattle.tv_store.specs.Making.{OpensCommit, ChecksFiles, ReadingCause}
+use Rattle.tv_store.specs.Making.{OpensCommit, ChecksFiles, IsPlanned, ReadingCause}
 use Rattle.tv_store.specs.OpeningCauses.{IsFirstBad, MeetsMissing, MeetsRefused}
 use Rattle.tv_store.specs.ReadCauses.{ApplyCause, reading_facts}
 use Rattle.tv_store.specs.Stays.{KeepsFiles}
@@ -154,3 +155,12 @@ module _ {A O W C : Type 0} (g : Ghosts O W C) (old new : FilesState O) (result 
         unbegun (λ t. subst (TellsNoLine (g.view old.outside).heard) (sym heard) (inl refl))
         (λ t. subst (λ (h : Heard). TellsFirstPart (g.view old.outside).heard h (opening_of commit)) (sym heard) (inl refl))
         (managed_by reads_tells frame)
+
+-- ---- what an opening does of a catalog that is seen as another one
+
+module _ {inside catalog : Catalog} (required : List (List ℕ)) (line : List ℕ) (planned : IsPlanned inside required line) (is : inside ≡ catalog) where
+  pub required_is : required ≡ all_required catalog.commit.segments
+  required_is = planned.reads ∙ ap (λ (k : Catalog). all_required k.commit.segments) is
+
+  pub line_is : line ≡ opening_of catalog.commit
+  line_is = planned.tells ∙ ap (λ (k : Catalog). opening_of k.commit) is

@@ -43,7 +43,6 @@ pub mod OpenedCatalogs
 pub mod CheckedFiles
 pub mod Unfound
 pub mod Locking
-pub mod Unopened
 pub mod KeptFiles
 pub mod NewFiles
 pub mod SavedFiles

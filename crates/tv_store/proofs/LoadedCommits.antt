@@ -51,12 +51,10 @@ module _ (tells : Type 0) (reads : Reads) (kept : KeptState) where
   other_holds_none = of_text (MeansOtherThan (Some kept.form.schema)) other_never
 
 -- what is shown of it
-pub shown_is : (s : State) (generation opstamp : ℕ) (payload : Option (List ℕ)) (segments shown : List (List ℕ × LiveSegment)) (bodies : List (List (List ℕ)))
-    → record { opstamp = opstamp; payload = payload; segments = segments } ≡ s.catalog.commit → ReadsSegments s segments shown bodies
-    → record { generation = generation; commit = record { opstamp = opstamp; payload = payload; segments = shown }; bodies = bodies } ≡ snapshot_in s generation
-shown_is s generation opstamp payload segments shown bodies is reads =
-    let commit : record { opstamp = opstamp; payload = payload; segments = shown } ≡ s.catalog.commit =
-    ap (λ (es : List (List ℕ × LiveSegment)). record { opstamp = opstamp; payload = payload; segments = es }) reads.are ∙ is in
-    let bodies_are : bodies ≡ bodies_in s s.catalog.commit = reads.each ∙ ap (λ (c : Commit). bodies_in s c) is in
-    ap (λ (c : Commit). record { generation = generation; commit = c; bodies = bodies }) commit
+pub shown_is : (s : State) (generation : ℕ) (commit : Commit) (segments shown : List (List ℕ × LiveSegment)) (bodies : List (List (List ℕ))) → segments ≡ commit.segments → commit ≡ s.catalog.commit → ReadsSegments s segments shown bodies
+    → record { generation = generation; commit = record commit { segments = shown }; bodies = bodies } ≡ snapshot_in s generation
+shown_is s generation commit segments shown bodies listed is reads =
+    let whole : record commit { segments = shown } ≡ s.catalog.commit = ap (λ (es : List (List ℕ × LiveSegment)). record commit { segments = es }) (reads.are ∙ listed) ∙ is in
+    let bodies_are : bodies ≡ bodies_in s s.catalog.commit = reads.each ∙ ap (λ (es : List (List ℕ × LiveSegment)). bodies_in s (record commit { segments = es })) listed ∙ ap (λ (c : Commit). bodies_in s c) is in
+    ap (λ (c : Commit). record { generation = generation; commit = c; bodies = bodies }) whole
     ∙ ap (λ (b : List (List (List ℕ))). record { generation = generation; commit = s.catalog.commit; bodies = b }) bodies_are

@@ -1,5 +1,5 @@
 -- How the lock of the writer is taken, or isn't.
-use Rattle.std.proofs.Common.{◌≡◌, ◌⊎◌, inl, inr, ℕ, true, List, None, refl, sym, subst, ◌∙◌, arith}
+use Rattle.std.proofs.Common.{◌≡◌, ◌⊎◌, inl, inr, ℕ, true, List, None, Err, refl, sym, subst, ◌∙◌, arith}
 use Rattle.tv_base.specs.Errors.{of_lock}
 use Rattle.tv_base.specs.Causes.{IsDevice}
 use Rattle.tv_base.specs.declared.error.TantivyError.{TantivyError}
@@ -8,9 +8,9 @@ use Rattle.tv_base.specs.declared.io.IoFault.{IoFault}
 use Rattle.tv_base.specs.declared.open_errors.LockError.{LockError}
 use Rattle.tv_base.specs.declared.open_errors.LockError.TheVariants as lock
 use Rattle.tv_device.specs.Images.{KeepsDisk}
-use Rattle.tv_device.specs.Locks.{LockCause, SameLocks, TakesLock}
+use Rattle.tv_device.specs.Locks.{LockCause, SameLocks}
 use Rattle.tv_device.specs.View.{OnlyLocks, OnlyReads}
-use Rattle.tv_device.specs.ViewLaws.{reads_then, tells_then}
+use Rattle.tv_device.specs.ViewLaws.{reads_then}
 use Rattle.tv_device.specs.declared.directory.Directory.{Ghosts}
 use Rattle.tv_index.specs.CrashLaws.{looks_kept, looks_then}
 use Rattle.tv_index.specs.Crashes.{OnlyLooks}
@@ -21,10 +21,11 @@ use Rattle.tv_formats.specs.Sound.{FindsCommit}
 use Rattle.tv_machine.specs.Index.{FoundIndex}
 use Rattle.tv_formats.specs.Names.{meta_name}
 use Rattle.tv_formats.specs.Schemas.{IsSchema}
+use Rattle.tv_store.specs.Opening.{OpensOrRefuses}
 use Rattle.tv_store.specs.OpeningCauses.{IsLockedOut, OpeningCause, opening_facts}
 use Rattle.tv_store.specs.StoreCauses.{QuietBehind, RefusedBehind, writer_lock_name}
-use Rattle.tv_store.specs.UnderLock.{IsUnderLock, LockedOut, LockedOutCause, NotUnderLock, RefusesLock, Syncs}
-use Rattle.tv_store.proofs.Unfound.{found_cause, open_cause_at}
+use Rattle.tv_store.specs.UnderLock.{LockedOut, LockedOutCause, RefusesLock}
+use Rattle.tv_store.proofs.Unfound.{found_cause, only_read, open_cause_at}
 use Rattle.tv_store.proofs.Listings.{listing_kept}
 
 -- ---- counts, where the call of the lock may be counted as refused
@@ -68,43 +69,23 @@ found_before schema now before same f = record {
 
 -- ---- behind the sync
 
-module _ {O W C : Type 0} (g : Ghosts O W C) (outside synced : O) (s : Syncs g outside synced) where
-  -- the lock is taken
-  pub is_locked : (locked : O) → (g.told.locks → TakesLock (g.view synced).locks (g.view locked).locks writer_lock_name) → (g.view locked).faults ≡ (g.view synced).faults
-      → OnlyLocks g.told (g.view synced) (g.view locked) → (g.tells_images → KeepsDisk (g.disk synced) (g.disk locked)) → IsUnderLock g outside locked
-  is_locked locked took quiet only keeps = record {
-    took = λ t.
-        let k = took t in
-        record {
-          was_free = sym (s.frame.kept.frame.locks t writer_lock_name) ∙ k.was_free;
-          is_held = k.is_held;
-          others = λ n other. k.others n other ∙ s.frame.kept.frame.locks t n;
-        };
-    only = record {
-      tells_none = tells_then s.frame.kept.frame.tells_none only.tells_none;
-      watched = only.watched ∙ s.frame.kept.watched;
-      content = λ t n. only.content t n ∙ s.frame.content t n;
-    };
-    quiet = quiet ∙ s.quiet;
-    looks = λ t. looks_then g (s.looks t) (looks_kept g (keeps t));
-  }
-
+module _ {O W C : Type 0} (g : Ghosts O W C) (outside synced : O) (quiet : (g.view synced).faults ≡ (g.view outside).faults) (read : OnlyReads g.told (g.view outside) (g.view synced)) (look : g.tells_images → OnlyLooks g outside synced) where
   -- it isn't given
-  module _ (mid : O) (err : g.told.locks → SameLocks (g.view synced).locks (g.view mid).locks) (only : OnlyLocks g.told (g.view synced) (g.view mid)) (keeps : g.tells_images → KeepsDisk (g.disk synced) (g.disk mid)) where
+  module _ (mid : O) (err : g.told.locks → SameLocks (g.view synced).locks (g.view mid).locks) (only : OnlyLocks g.told (g.view synced) (g.view mid)) (keeps : g.tells_images → KeepsDisk (g.disk synced) (g.disk mid)) (schema text : List ℕ) (spelled : IsSchema schema text) where
     read_only : OnlyReads g.told (g.view outside) (g.view mid)
-    read_only = reads_then s.frame (record {
+    read_only = reads_then read (record {
       kept = record { frame = record { tells_none = only.tells_none; locks = err }; watched = only.watched };
       content = only.content;
     })
 
     looked : g.tells_images → OnlyLooks g outside mid
-    looked t = looks_then g (s.looks t) (looks_kept g (keeps t))
+    looked t = looks_then g (look t) (looks_kept g (keeps t))
 
     -- since it is held
-    module _ (text : List ℕ) (busy : g.told.locks → (g.view synced).locks writer_lock_name ≡ true) (counts : (g.told.locks × ((g.view mid).faults ≡ (g.view synced).faults)) ⊎ Rose (g.view synced).faults (g.view mid).faults)
+    module _ (busy : g.told.locks → (g.view synced).locks writer_lock_name ≡ true) (counts : (g.told.locks × ((g.view mid).faults ≡ (g.view synced).faults)) ⊎ Rose (g.view synced).faults (g.view mid).faults)
         (now : O) (error : TantivyError) (out : LockedOut g mid text now error) where
       held : g.told.locks → (g.view outside).locks writer_lock_name ≡ true
-      held t = sym (s.frame.kept.frame.locks t writer_lock_name) ∙ busy t
+      held t = sym (read.kept.frame.locks t writer_lock_name) ∙ busy t
 
       locked_out : IsLockedOut g outside now
       locked_out = (held, reads_then read_only out.frame)
@@ -113,12 +94,11 @@ module _ {O W C : Type 0} (g : Ghosts O W C) (outside synced : O) (s : Syncs g o
       Counts start = (g.told.locks × ((g.view mid).faults ≡ start)) ⊎ Rose start (g.view mid).faults
 
       counted : Counts (g.view outside).faults
-      counted = subst Counts s.quiet counts
+      counted = subst Counts quiet counts
 
-      cause : (schema : List ℕ) → IsSchema schema text → (e : TantivyError)
-          → LockedOutCause g.told.content text (g.view mid).reads (Rose (g.view mid).faults (g.view now).faults) ((g.view now).faults ≡ (g.view mid).faults) e
+      cause : (e : TantivyError) → LockedOutCause g.told.content text (g.view mid).reads (Rose (g.view mid).faults (g.view now).faults) ((g.view now).faults ≡ (g.view mid).faults) e
           → OpeningCause (opening_facts g outside now) schema (g.view outside).reads e
-      cause schema spelled (errors.LockFailure lock.LockBusy named) k = (
+      cause (errors.LockFailure lock.LockBusy named) k = (
         (text, spelled),
         (λ t. found_before schema (g.view mid).reads (g.view outside).reads (read_only.content t) (found_openable schema text (g.view mid).reads spelled (k.1 t))),
         record { told = held; untold = told_or_rose counted },
@@ -127,46 +107,35 @@ module _ {O W C : Type 0} (g : Ghosts O W C) (outside synced : O) (s : Syncs g o
         told_or_rose : Counts (g.view outside).faults → g.told.locks ⊎ Rose (g.view outside).faults (g.view now).faults
         told_or_rose (inl still) = inl still.0
         told_or_rose (inr rose) = inr (subst (λ (n : ℕ). Rose (g.view outside).faults n) (sym k.0) rose)
-      cause schema spelled (errors.LockFailure (lock.IoError fault) named) k = absurd k
-      cause schema spelled (errors.LockFailure lock.Memory named) k = absurd k
-      cause schema spelled other k =
+      cause (errors.LockFailure (lock.IoError fault) named) k = absurd k
+      cause (errors.LockFailure lock.Memory named) k = absurd k
+      cause other k =
           found_cause (opening_facts g outside now) schema text (g.view outside).reads other spelled
           (open_cause_at g.told.content text (g.view mid).reads (g.view outside).reads _ _ _ _ other read_only.content
           (refused_behind (IsLockedOut g outside now) g.told.locks (g.view outside).faults (g.view mid).faults (g.view now).faults locked_out counted)
           (quiet_behind (IsLockedOut g outside now) g.told.locks (g.view outside).faults (g.view mid).faults (g.view now).faults locked_out counted) k)
 
-      not_free : NotUnderLock g outside text now error
-      not_free = record {
-        cause = λ schema spelled. cause schema spelled error out.cause;
-        frame = reads_then read_only out.frame;
-        looks = λ t. looks_then g (looked t) (out.looks t);
-      }
+      not_free : OpensOrRefuses g outside schema (Err (record { error = error; directory = now }))
+      not_free = only_read g outside schema now error (reads_then read_only out.frame) (λ t. looks_then g (looked t) (out.looks t)) (cause error out.cause)
 
     -- for whatever reason
-    pub not_given : (text : List ℕ) (why : LockError) (now : O) (error : TantivyError) → (g.told.locks → LockCause ((g.view synced).locks writer_lock_name ≡ true) (Unit {0}) (Unit {0}) why)
+    pub not_given : (why : LockError) (now : O) (error : TantivyError) → (g.told.locks → LockCause ((g.view synced).locks writer_lock_name ≡ true) (Unit {0}) (Unit {0}) why)
         → LockCause ((g.told.locks × ((g.view mid).faults ≡ (g.view synced).faults)) ⊎ Rose (g.view synced).faults (g.view mid).faults) (Rose (g.view synced).faults (g.view mid).faults) ((g.view mid).faults ≡ (g.view synced).faults) why
-        → RefusesLock g mid text why now error → NotUnderLock g outside text now error
-    not_given text lock.LockBusy now error busy counts r = not_free text busy counts now error r
-    not_given text (lock.IoError fault) now error busy h r = subst (λ (d : O). NotUnderLock g outside text d error) (sym r.0) (record {
-      cause = λ schema spelled.
-          subst (OpeningCause (opening_facts g outside mid) schema (g.view outside).reads) (sym r.1) ((text, spelled), h.0, subst (λ (n : ℕ). Rose n (g.view mid).faults) s.quiet h.1, refl);
-      frame = read_only;
-      looks = looked;
-    })
-    not_given text lock.Memory now error busy h r = subst (λ (d : O). NotUnderLock g outside text d error) (sym r.0) (record {
-      cause = λ schema spelled. subst (OpeningCause (opening_facts g outside mid) schema (g.view outside).reads) (sym r.1) (inl (h ∙ s.quiet));
-      frame = read_only;
-      looks = looked;
-    })
+        → RefusesLock g mid text why now error → OpensOrRefuses g outside schema (Err (record { error = error; directory = now }))
+    not_given lock.LockBusy now error busy counts r = not_free busy counts now error r
+    not_given (lock.IoError fault) now error busy h r =
+        subst (λ (d : O). OpensOrRefuses g outside schema (Err (record { error = error; directory = d }))) (sym r.0)
+        (only_read g outside schema mid error read_only looked
+        (subst (OpeningCause (opening_facts g outside mid) schema (g.view outside).reads) (sym r.1) ((text, spelled), h.0, subst (λ (n : ℕ). Rose n (g.view mid).faults) quiet h.1, refl)))
+    not_given lock.Memory now error busy h r =
+        subst (λ (d : O). OpensOrRefuses g outside schema (Err (record { error = error; directory = d }))) (sym r.0)
+        (only_read g outside schema mid error read_only looked (subst (OpeningCause (opening_facts g outside mid) schema (g.view outside).reads) (sym r.1) (inl (h ∙ quiet))))
 
 -- the sync was refused
-pub not_synced : {O W C : Type 0} (g : Ghosts O W C) (outside now : O) (text : List ℕ) (fault : IoFault) (error : TantivyError) → error ≡ errors.IoError fault → IsDevice fault × Rose (g.view outside).faults (g.view now).faults
-    → OnlyReads g.told (g.view outside) (g.view now) → (g.tells_images → OnlyLooks g outside now) → NotUnderLock g outside text now error
-not_synced g outside now text fault error is h frame looks = record {
-  cause = λ schema spelled. subst (OpeningCause (opening_facts g outside now) schema (g.view outside).reads) (sym is) (text, spelled, (h.0, inl h.1));
-  frame = frame;
-  looks = looks;
-}
+pub not_synced : {O W C : Type 0} (g : Ghosts O W C) (outside now : O) (schema text : List ℕ) (fault : IoFault) (error : TantivyError) → IsSchema schema text → error ≡ errors.IoError fault → IsDevice fault × Rose (g.view outside).faults (g.view now).faults
+    → OnlyReads g.told (g.view outside) (g.view now) → (g.tells_images → OnlyLooks g outside now) → OpensOrRefuses g outside schema (Err (record { error = error; directory = now }))
+not_synced g outside now schema text fault error spelled is h frame looks =
+    only_read g outside schema now error frame looks (subst (OpeningCause (opening_facts g outside now) schema (g.view outside).reads) (sym is) (text, spelled, (h.0, inl h.1)))
 
 -- it isn't that it is held
 pub refuses_lock : {O W C : Type 0} (g : Ghosts O W C) (outside : O) (text : List ℕ) (why : LockError) (error : TantivyError) → (why ≡ lock.LockBusy → ⊥) → error ≡ of_lock why → RefusesLock g outside text why outside error

@@ -1,8 +1,9 @@
 -- What an opening does, put together: the lock was taken, an index was found under it, and its line was told, or not.
-use Rattle.std.proofs.Common.{◌≡◌, inl, inr, ℕ, ◌≤◌, true, true≢false, List, [], ◌∷◌, ◌++◌, length, Ok, Err, refl, sym, ap, subst, ◌∙◌, arith}
+use Rattle.std.proofs.Common.{◌≡◌, inl, inr, ℕ, ◌≤◌, true, true≢false, List, [], ◌∷◌, ◌++◌, length, Result, Ok, Err, refl, sym, ap, subst, ◌∙◌, arith}
 use Rattle.std.proofs.Math.Path.{fun_ext}
 use Rattle.std.specs.Prelude.{IsSome}
 use Rattle.std.specs.List.{AllByRecursion}
+use Rattle.std.specs.Result.{IsErrAnd}
 use Rattle.tv_base.specs.declared.error.TantivyError.{TantivyError}
 use Rattle.tv_base.specs.declared.error.TantivyError.TheVariants as errors
 use Rattle.tv_base.specs.declared.open_errors.OpenReadError.{OpenReadError}
@@ -32,7 +33,7 @@ use Rattle.tv_index.specs.Opening.{Finds, LeavesFound, LeavesUnopened, NotesNone
 use Rattle.tv_store.specs.Bodies.{ReadsGoodFile}
 use Rattle.tv_store.specs.Kept.{KeptState, FilesState, Holds, StoreState, kept_of}
 use Rattle.tv_store.specs.Making.{OpensCommit, FindsFiles, IsRefusedFirst, WritesNone}
-use Rattle.tv_store.specs.Opening.{LeavesIndex, Opens, OpeningFaults, OpeningFrame, OpensSafely, TakesWriterLock, TellsOpening}
+use Rattle.tv_store.specs.Opening.{Opens, OpensOrRefuses}
 use Rattle.tv_store.specs.OpeningCauses.{CallFacts, IndexMissing, IndexRefused, IsFirstBad, IsSomeSchema, MeetsMissing, MeetsRefused, OpeningCause, opening_facts}
 use Rattle.tv_store.specs.ReadCauses.{ApplyCause, ReadFault, reading_facts}
 use Rattle.tv_store.specs.Stays.{MayNotify}
@@ -115,6 +116,12 @@ from_lock g under P t = subst P (fun_ext (under.only.content t))
 pub lacked : {O W C : Type 0} (g : Ghosts O W C) {outside locked : O} → IsUnderLock g outside locked → LacksMeta g locked → LacksMeta g outside
 lacked g under lacks told = sym (under.only.content told meta_name) ∙ lacks told
 
+-- what holds of a refusal holds of the answer that hands it on
+pub refused_with : {O W C : Type 0} (g : Ghosts O W C) (outside : O) (schema : List ℕ) (result : Result (StoreState O) (Refused O)) (refused : Refused O) → IsErrAnd result (λ r. r ≡ refused)
+    → OpensOrRefuses g outside schema (Err refused) → OpensOrRefuses g outside schema result
+refused_with g outside schema (Ok store) refused never h = absurd never
+refused_with g outside schema (Err other) refused same h = subst (λ (r : Refused _). OpensOrRefuses g outside schema (Err r)) (sym same) h
+
 module _ {O W C : Type 0} (g : Ghosts O W C) (outside : O) (schema : List ℕ) (catalog : Catalog) (files : FilesState O) (u : FindsUnderLock g outside schema catalog files) where
   abbrev locked : O
   locked = u.locked
@@ -149,10 +156,7 @@ module _ {O W C : Type 0} (g : Ghosts O W C) (outside : O) (schema : List ℕ) (
   as_before t n required = read_before g locked schema files.form.schema catalog files u.spelled f t n (required_is_file catalog.commit.segments n f.is_commit.segments required)
 
   -- the line was told
-  module _ (commit : Commit) (is : commit ≡ catalog.commit) (started : FilesState O) (x : Unit {0}) (said : OpensCommit {A = Unit {0}} g commit files started (Ok x)) where
-    s : OpensCommit {A = Unit {0}} g catalog.commit files started (Ok x)
-    s = subst (λ (c : Commit). OpensCommit {A = Unit {0}} g c files started (Ok x)) is said
-
+  module _ (begins : Catalog) (is : begins ≡ catalog) (started : FilesState O) (s : OpensCommit {A = Catalog} g catalog.commit files started (Ok begins)) where
     tells : OnlyTells g.told (g.view files.outside) (g.view started.outside)
     tells = s.frame.managed.below
 
@@ -178,8 +182,8 @@ module _ {O W C : Type 0} (g : Ghosts O W C) (outside : O) (schema : List ℕ) (
           can_read g locked schema files.form.schema catalog files u.spelled f t index (s.good t),
         )
 
-    pub opened_opens : Opens g outside schema begun
-    opened_opens = record {
+    opens_begun : Opens g outside schema begun
+    opens_begun = record {
       is_open = refl;
       spelled = subst (IsSchema schema) (sym (ap (λ (k : KeptState). k.form.schema) kept_is)) u.spelled;
       finds = λ t. from_lock g under (λ reads. Finds reads begun.kept.form catalog.commit begun.kept.managed) t (finds_begun t);
@@ -206,9 +210,6 @@ module _ {O W C : Type 0} (g : Ghosts O W C) (outside : O) (schema : List ℕ) (
           heard = k.heard ∙ ap (λ (h : Heard). h ++ (k.moment, opening_of catalog.commit ++ 10 ∷ []) ∷ []) heard_yet;
         }
 
-    pub opened_tells : TellsOpening g outside schema (Ok begun)
-    opened_tells = record { ok = told_begun; err = λ t. tt; part = λ t h. tt }
-
     kept_locked : g.told.locks → SameLocks (g.view locked).locks (g.view started.outside).locks
     kept_locked t n = tells.locks t n ∙ f.frame.notes.frame.locks t n
 
@@ -217,51 +218,44 @@ module _ {O W C : Type 0} (g : Ghosts O W C) (outside : O) (schema : List ℕ) (
         subst (λ (k : KeptState). MayMake g (LacksMeta g locked) (first_text k.form.schema) locked started.outside) (sym kept_is)
         (makes_then g (first_text files.form.schema) (LacksMeta g locked) (f.makes t).0 (s.looks t))
 
-    pub opened_locks : TakesWriterLock g outside (Ok begun)
-    opened_locks = record {
-      ok = λ t. took_then (g.view outside).locks (g.view locked).locks (g.view started.outside).locks writer_lock_name (under.took t) (kept_locked t);
-      under = record { locked = locked; under = under; finds = finds_begun; leaves = left_begun; makes = made_begun; keeps = kept_locked };
-      writes = tt;
-      err = λ t. tt;
-    }
-
-    pub opened_faults : OpeningFaults g outside schema (Ok begun)
-    opened_faults = record { quiet = s.quiet ∙ quiet_yet; cause = tt }
-
-    pub opened_frame : OpeningFrame g outside (Ok begun)
-    opened_frame = record {
-      ok = record {
-        deletes_none = deletes_then notified.deletes_none tells.deletes_none;
-        dotted = λ t n dot other. tells.content t n ∙ notified.dotted t n dot other;
-        watched = subst (λ (w : WatchState). MayNote meta_name (g.view outside).watched w) (sym tells.watched) notified.watched;
+    pub opened : OpensOrRefuses g outside schema (Ok (record { kept = kept_of begins started; outside = started.outside; standing = record { is_open = true } }))
+    opened = subst (λ (k : Catalog). OpensOrRefuses g outside schema (Ok (record { kept = kept_of k started; outside = started.outside; standing = record { is_open = true } }))) (sym is) (record {
+      opens = opens_begun;
+      leaves = tt;
+      tells = record { ok = told_begun; err = λ t. tt; part = λ t h. tt };
+      locks = record {
+        ok = λ t. took_then (g.view outside).locks (g.view locked).locks (g.view started.outside).locks writer_lock_name (under.took t) (kept_locked t);
+        under = record { locked = locked; under = under; finds = finds_begun; leaves = left_begun; makes = made_begun; keeps = kept_locked };
+        writes = tt;
+        err = λ t. tt;
       };
-      err = tt;
-      stood = λ told. tells.watched ∙ unnoted told;
-      made = λ t none. tells.watched ∙ f.notes t (under.only.content t meta_name ∙ none) ∙ ap (noted meta_name) under.only.watched;
-      unnoted = tt;
-    }
-
-    pub opened_safely : g.tells_images → OpensSafely g outside schema (Ok begun)
-    opened_safely t = record {
-      ok = makes_behind g (first_text begun.kept.form.schema) (lacked g under) (under.looks t) (made_begun t);
-      tracks =
-          subst (λ (k : KeptState). TracksFrom g outside (started.outside, record { managed = k.managed; collections = k.collections })) (sym kept_is)
-          (tracks_then g (record { managed = files.managed; collections = files.collections }) (tracks_behind g (under.looks t) (f.makes t).1) (s.looks t));
-      err = tt;
-      looks = tt;
-    }
+      faults = record { quiet = s.quiet ∙ quiet_yet; cause = tt };
+      frame = record {
+        ok = record {
+          deletes_none = deletes_then notified.deletes_none tells.deletes_none;
+          dotted = λ t n dot other. tells.content t n ∙ notified.dotted t n dot other;
+          watched = subst (λ (w : WatchState). MayNote meta_name (g.view outside).watched w) (sym tells.watched) notified.watched;
+        };
+        err = tt;
+        stood = λ told. tells.watched ∙ unnoted told;
+        made = λ t none. tells.watched ∙ f.notes t (under.only.content t meta_name ∙ none) ∙ ap (noted meta_name) under.only.watched;
+        unnoted = tt;
+      };
+      safe = λ t. record {
+        ok = makes_behind g (first_text begun.kept.form.schema) (lacked g under) (under.looks t) (made_begun t);
+        tracks =
+            subst (λ (k : KeptState). TracksFrom g outside (started.outside, record { managed = k.managed; collections = k.collections })) (sym kept_is)
+            (tracks_then g (record { managed = files.managed; collections = files.collections }) (tracks_behind g (under.looks t) (f.makes t).1) (s.looks t));
+        err = tt;
+        looks = tt;
+      };
+    })
 
   -- it wasn't, and the lock was freed
-  module _ (commit : Commit) (is : commit ≡ catalog.commit) (started : FilesState O) (error : TantivyError) (said : OpensCommit {A = Unit {0}} g commit files started (Err error)) (now : O) (frees : Frees g.told writer_lock_name (g.view started.outside) (g.view now))
+  module _ (started : FilesState O) (error : TantivyError) (failed : OpensCommit {A = Catalog} g catalog.commit files started (Err error)) (now : O) (frees : Frees g.told writer_lock_name (g.view started.outside) (g.view now))
       (keeps : g.tells_images → KeepsDisk (g.disk started.outside) (g.disk now)) where
-    failed : OpensCommit {A = Unit {0}} g catalog.commit files started (Err error)
-    failed = subst (λ (c : Commit). OpensCommit {A = Unit {0}} g c files started (Err error)) is said
-
     tried : OnlyTells g.told (g.view files.outside) (g.view started.outside)
     tried = failed.frame.managed.below
-
-    abbrev back : Refused O
-    back = record { error = error; directory = now }
 
     reads_back : g.told.content → Same (g.view files.outside).reads (g.view now).reads
     reads_back t n = frees.frame.content t n ∙ tried.content t n
@@ -275,39 +269,9 @@ module _ {O W C : Type 0} (g : Ghosts O W C) (outside : O) (schema : List ℕ) (
         (λ e. g.told.content → MeetsRefused (g.view files.outside).reads (all_required catalog.commit.segments) e) (λ path. g.told.content → MeetsMissing (g.view files.outside).reads (all_required catalog.commit.segments) path) error first failed.lock failed.cause
     never_late (inr held) = true≢false (sym held.1 ∙ (under.took held.0).was_free)
 
-    pub unbegun_leaves : LeavesIndex g outside schema back
-    unbegun_leaves = record {
-      leaves = λ t. record {
-        spelled = λ text is.
-            subst (LeavesUnopened (g.view outside).reads (g.view now).reads) (u.spelled.text_is ∙ sym is.text_is)
-            (from_lock g under (λ reads. LeavesUnopened reads (g.view now).reads files.form.schema) t
-            (same_unopened (g.view locked).reads (g.view files.outside).reads (g.view now).reads files.form.schema (f.leaves t) (reads_back t)));
-        unspelled = λ none. absurd (none files.form.schema u.spelled);
-      };
-      unchanged = λ t none. absurd (never_late none);
-    }
-
     -- what was heard then
     hears : (P : Heard → Heard → Type 0) → P (g.view files.outside).heard (g.view started.outside).heard → P (g.view outside).heard (g.view now).heard
     hears P h = subst (λ (x : Heard). P x (g.view now).heard) heard_yet (subst (P (g.view files.outside).heard) (sym frees.frame.tells_none.heard) h)
-
-    pub unbegun_tells : TellsOpening g outside schema (Err back)
-    unbegun_tells = record {
-      ok = λ t. tt;
-      err = λ t. hears TellsNoLine (failed.untold t);
-      part = λ t h.
-          from_lock g under (λ reads. (index : FoundIndex schema reads) → TellsFirstPart (g.view outside).heard (g.view now).heard (opening_of index.commit)) t
-          (λ index. hears (λ old new. TellsFirstPart old new (opening_of index.commit))
-          (subst (λ (c : Commit). TellsFirstPart (g.view files.outside).heard (g.view started.outside).heard (opening_of c)) (sym (commit_is g locked schema files.form.schema catalog files u.spelled f t index)) (failed.part h)));
-    }
-
-    pub unbegun_locks : TakesWriterLock g outside (Err back)
-    unbegun_locks = record {
-      ok = λ t. tt;
-      under = tt;
-      err = λ t. freed_after (g.view outside).locks (g.view locked).locks (g.view started.outside).locks (g.view now).locks writer_lock_name (under.took t) (λ n. tried.locks t n ∙ f.frame.notes.frame.locks t n) (frees.freed t);
-      writes = inr (locked, under);
-    }
 
     -- why, as it is counted from before the opening on
     abbrev Counted : (before after : ℕ) → Type 0
@@ -317,48 +281,71 @@ module _ {O W C : Type 0} (g : Ghosts O W C) (outside : O) (schema : List ℕ) (
     counted : Counted (g.view outside).faults (g.view now).faults
     counted = subst (λ (n : ℕ). Counted n (g.view now).faults) quiet_yet (subst (Counted (g.view files.outside).faults) (sym frees.faults) failed.cause)
 
-    pub unbegun_faults : OpeningFaults g outside schema (Err back)
-    unbegun_faults = record {
-      quiet = tt;
-      cause =
-          begun_cause (opening_facts g outside now) schema (g.view outside).reads
-          (λ e. g.told.content → MeetsRefused (g.view files.outside).reads (all_required catalog.commit.segments) e) (λ path. g.told.content → MeetsMissing (g.view files.outside).reads (all_required catalog.commit.segments) path)
-          error (files.form.schema, u.spelled) (λ t. from_lock g under (FoundIndex schema) t (index_at_lock t)) (λ t. (under.took t).was_free)
-          (λ e met t.
-          from_lock g under (λ reads. IndexRefused schema reads e) t (
-            index_at_lock t,
-            subst (λ names. MeetsRefused (g.view locked).reads names e) (sym (required_by_one catalog.commit))
-                (refused_before (g.view locked).reads (g.view files.outside).reads (all_required catalog.commit.segments) e (as_before t) (met t)),
-          ))
-          (λ path met t.
-          from_lock g under (λ reads. IndexMissing schema reads path) t (
-            index_at_lock t,
-            subst (λ names. MeetsMissing (g.view locked).reads names path) (sym (required_by_one catalog.commit))
-                (missing_before (g.view locked).reads (g.view files.outside).reads (all_required catalog.commit.segments) path (as_before t) (met t)),
-          ))
-          inl inl failed.file failed.lock counted;
-    }
+    cause : OpeningCause (opening_facts g outside now) schema (g.view outside).reads error
+    cause =
+        begun_cause (opening_facts g outside now) schema (g.view outside).reads
+        (λ e. g.told.content → MeetsRefused (g.view files.outside).reads (all_required catalog.commit.segments) e) (λ path. g.told.content → MeetsMissing (g.view files.outside).reads (all_required catalog.commit.segments) path)
+        error (files.form.schema, u.spelled) (λ t. from_lock g under (FoundIndex schema) t (index_at_lock t)) (λ t. (under.took t).was_free)
+        (λ e met t.
+        from_lock g under (λ reads. IndexRefused schema reads e) t (
+          index_at_lock t,
+          subst (λ names. MeetsRefused (g.view locked).reads names e) (sym (required_by_one catalog.commit))
+              (refused_before (g.view locked).reads (g.view files.outside).reads (all_required catalog.commit.segments) e (as_before t) (met t)),
+        ))
+        (λ path met t.
+        from_lock g under (λ reads. IndexMissing schema reads path) t (
+          index_at_lock t,
+          subst (λ names. MeetsMissing (g.view locked).reads names path) (sym (required_by_one catalog.commit))
+              (missing_before (g.view locked).reads (g.view files.outside).reads (all_required catalog.commit.segments) path (as_before t) (met t)),
+        ))
+        inl inl failed.file failed.lock counted
 
-    pub unbegun_frame : OpeningFrame g outside (Err back)
-    unbegun_frame = record {
-      ok = tt;
-      err = record {
-        deletes_none = deletes_then notified.deletes_none (deletes_then tried.deletes_none frees.frame.tells_none.deletes_none);
-        dotted = λ t n dot other. reads_back t n ∙ notified.dotted t n dot other;
-        watched = subst (λ (w : WatchState). MayNote meta_name (g.view outside).watched w) (sym watched_back) notified.watched;
+    pub unbegun : OpensOrRefuses g outside schema (Err (record { error = error; directory = now }))
+    unbegun = record {
+      opens = tt;
+      leaves = record {
+        leaves = λ t. record {
+          spelled = λ text is.
+              subst (LeavesUnopened (g.view outside).reads (g.view now).reads) (u.spelled.text_is ∙ sym is.text_is)
+              (from_lock g under (λ reads. LeavesUnopened reads (g.view now).reads files.form.schema) t
+              (same_unopened (g.view locked).reads (g.view files.outside).reads (g.view now).reads files.form.schema (f.leaves t) (reads_back t)));
+          unspelled = λ none. absurd (none files.form.schema u.spelled);
+        };
+        unchanged = λ t none. absurd (never_late none);
       };
-      stood = λ told. watched_back ∙ unnoted told;
-      made = tt;
-      unnoted = λ none. absurd (never_late none);
-    }
-
-    pub unbegun_safely : g.tells_images → OpensSafely g outside schema (Err back)
-    unbegun_safely t = record {
-      ok = tt;
-      tracks = tt;
-      err = λ text is.
-          subst (λ (x : List ℕ). MayMake g (LacksMeta g outside) (first_text x) outside now) (u.spelled.text_is ∙ sym is.text_is)
-          (makes_behind g (first_text files.form.schema) (lacked g under) (under.looks t)
-          (makes_then g (first_text files.form.schema) (LacksMeta g locked) (f.makes t).0 (looks_then g (failed.looks t) (looks_kept g (keeps t)))));
-      looks = λ none. absurd (never_late none);
+      tells = record {
+        ok = λ t. tt;
+        err = λ t. hears TellsNoLine (failed.untold t);
+        part = λ t h.
+            from_lock g under (λ reads. (index : FoundIndex schema reads) → TellsFirstPart (g.view outside).heard (g.view now).heard (opening_of index.commit)) t
+            (λ index. hears (λ old new. TellsFirstPart old new (opening_of index.commit))
+            (subst (λ (c : Commit). TellsFirstPart (g.view files.outside).heard (g.view started.outside).heard (opening_of c)) (sym (commit_is g locked schema files.form.schema catalog files u.spelled f t index)) (failed.part h)));
+      };
+      locks = record {
+        ok = λ t. tt;
+        under = tt;
+        err = λ t. freed_after (g.view outside).locks (g.view locked).locks (g.view started.outside).locks (g.view now).locks writer_lock_name (under.took t) (λ n. tried.locks t n ∙ f.frame.notes.frame.locks t n) (frees.freed t);
+        writes = inr (locked, under);
+      };
+      faults = record { quiet = tt; cause = cause };
+      frame = record {
+        ok = tt;
+        err = record {
+          deletes_none = deletes_then notified.deletes_none (deletes_then tried.deletes_none frees.frame.tells_none.deletes_none);
+          dotted = λ t n dot other. reads_back t n ∙ notified.dotted t n dot other;
+          watched = subst (λ (w : WatchState). MayNote meta_name (g.view outside).watched w) (sym watched_back) notified.watched;
+        };
+        stood = λ told. watched_back ∙ unnoted told;
+        made = tt;
+        unnoted = λ none. absurd (never_late none);
+      };
+      safe = λ t. record {
+        ok = tt;
+        tracks = tt;
+        err = λ text is.
+            subst (λ (x : List ℕ). MayMake g (LacksMeta g outside) (first_text x) outside now) (u.spelled.text_is ∙ sym is.text_is)
+            (makes_behind g (first_text files.form.schema) (lacked g under) (under.looks t)
+            (makes_then g (first_text files.form.schema) (LacksMeta g locked) (f.makes t).0 (looks_then g (failed.looks t) (looks_kept g (keeps t)))));
+        looks = λ none. absurd (never_late none);
+      };
     }

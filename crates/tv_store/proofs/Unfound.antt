@@ -1,8 +1,11 @@
 -- Why no index was found, as a cause of an opening, and what that leaves.
-use Rattle.std.proofs.Common.{◌≡◌, ◌⊎◌, inl, inr, ℕ, List, Option, Some, None, true≢false, refl, sym, subst, ◌∙◌}
+use Rattle.std.proofs.Common.{◌≡◌, ◌⊎◌, inl, inr, ℕ, List, Option, Some, None, Err, true≢false, refl, sym, subst, ◌∙◌}
 use Rattle.std.specs.Prelude.{IsSome}
 use Rattle.tv_base.specs.declared.error.TantivyError.{TantivyError}
 use Rattle.tv_base.specs.declared.error.TantivyError.TheVariants as errors
+use Rattle.tv_device.specs.Calls.{Frees}
+use Rattle.tv_device.specs.Images.{KeepsDisk}
+use Rattle.tv_device.specs.View.{OnlyReads}
 use Rattle.tv_device.specs.ViewLaws.{deletes_then, kept_itself}
 use Rattle.tv_device.specs.Watch.{MayNote, WatchState}
 use Rattle.tv_device.specs.declared.directory.Directory.{Ghosts}
@@ -17,10 +20,11 @@ use Rattle.tv_index.specs.Opening.{IsRefusedBytes, LeavesFound, LeavesUnopened, 
 use Rattle.tv_index.specs.Saving.{IsUnrefused}
 use Rattle.tv_metas.specs.Schemas.{SchemaCause}
 use Rattle.tv_metas.specs.declared.index_meta.UntrackedIndexMeta.{UntrackedIndexMeta}
-use Rattle.tv_store.specs.Making.{FindsNone, GivesBack, IsRefusedFirst, LeavesRefused, WritesNone}
+use Rattle.tv_store.specs.Making.{FindsNone, IsRefusedFirst, LeavesRefused, WritesNone}
+use Rattle.tv_store.specs.Opening.{OpensOrRefuses}
 use Rattle.tv_store.specs.OpeningCauses.{CallFacts, OpeningCause, opening_facts}
 use Rattle.tv_store.specs.StoreCauses.{writer_lock_name}
-use Rattle.tv_store.specs.UnderLock.{IsUnderLock, NotFound, NotUnderLock}
+use Rattle.tv_store.specs.UnderLock.{IsUnderLock}
 use Rattle.tv_store.proofs.Holding.{dotted_others}
 use Rattle.tv_store.proofs.Opened.{from_lock, lacked}
 use Rattle.tv_store.proofs.StoreLocks.{freed_after}
@@ -83,95 +87,104 @@ found_unopened : (old new : Reads) (schema : List ℕ) → LeavesFound old new s
 found_unopened old new schema h = record { stood = h.stood; others = h.others; made = λ none. inr (h.made none) }
 
 module _ {O W C : Type 0} (g : Ghosts O W C) (outside : O) (schema : List ℕ) where
-  -- the bytes spell no schema, or memory was wanted for it
-  pub unspelled : (error : TantivyError) → SchemaCause schema error → NotFound g outside schema outside error
-  unspelled error h = record {
-    leaves = λ t. same_refused (g.view outside).reads (g.view outside).reads schema (λ n. refl);
-    unchanged = λ t none n. refl;
-    heard = refl;
-    locks = λ t n. refl;
-    writes = inl (record { kept = kept_itself g.told (g.view outside); content = λ t n. refl });
-    cause = cause error h;
-    frame = record { deletes_none = (kept_itself g.told (g.view outside)).frame.tells_none.deletes_none; dotted = λ t n dot other. refl; watched = inl refl };
-    stood = λ tells. refl;
-    unnoted = λ none. refl;
-    makes = λ t text is. looks_make g (first_text text) (LacksMeta g outside) (looks_none g outside);
-    looks = λ t none. looks_none g outside;
+  -- the directory was only read from
+  pub only_read : (now : O) (error : TantivyError) → OnlyReads g.told (g.view outside) (g.view now) → (g.tells_images → OnlyLooks g outside now) → OpeningCause (opening_facts g outside now) schema (g.view outside).reads error
+      → OpensOrRefuses g outside schema (Err (record { error = error; directory = now }))
+  only_read now error only look cause = record {
+    opens = tt;
+    leaves = record { leaves = λ t. same_refused (g.view outside).reads (g.view now).reads schema (only.content t); unchanged = λ t none. only.content t };
+    tells = record { ok = λ t. tt; err = λ t. inl heard; part = λ t h index. inl heard };
+    locks = record { ok = λ t. tt; under = tt; err = only.kept.frame.locks; writes = inl only };
+    faults = record { quiet = tt; cause = cause };
+    frame = record {
+      ok = tt;
+      err = record { deletes_none = only.kept.frame.tells_none.deletes_none; dotted = λ t n dot other. only.content t n; watched = inl only.kept.watched };
+      stood = λ told. only.kept.watched;
+      made = tt;
+      unnoted = λ none. only.kept.watched;
+    };
+    safe = λ t. record { ok = tt; tracks = tt; err = λ text is. looks_make g (first_text text) (LacksMeta g outside) (look t); looks = λ none. look t };
   } where
+    heard : (g.view now).heard ≡ (g.view outside).heard
+    heard = only.kept.frame.tells_none.heard
+
+  -- the bytes spell no schema, or memory was wanted for it
+  pub unspelled : (error : TantivyError) → SchemaCause schema error → OpensOrRefuses g outside schema (Err (record { error = error; directory = outside }))
+  unspelled error h = only_read outside error (record { kept = kept_itself g.told (g.view outside); content = λ t n. refl }) (λ t. looks_none g outside) (cause error h) where
     cause : (e : TantivyError) → SchemaCause schema e → OpeningCause (opening_facts g outside outside) schema (g.view outside).reads e
     cause (errors.InvalidArgument text) k = (refl, k.1, k.0)
     cause errors.Memory k = inl refl
     cause other k = absurd k
 
-  -- the lock wasn't given
-  pub not_locked : (text : List ℕ) (now : O) (error : TantivyError) → IsSchema schema text → NotUnderLock g outside text now error → NotFound g outside schema now error
-  not_locked text now error is h = record {
-    leaves = λ t. same_refused (g.view outside).reads (g.view now).reads schema (h.frame.content t);
-    unchanged = λ t none. h.frame.content t;
-    heard = h.frame.kept.frame.tells_none.heard;
-    locks = h.frame.kept.frame.locks;
-    writes = inl h.frame;
-    cause = h.cause schema is;
-    frame = record { deletes_none = h.frame.kept.frame.tells_none.deletes_none; dotted = λ t n dot other. h.frame.content t n; watched = inl h.frame.kept.watched };
-    stood = λ tells. h.frame.kept.watched;
-    unnoted = λ none. h.frame.kept.watched;
-    makes = λ t own is. looks_make g (first_text own) (LacksMeta g outside) (h.looks t);
-    looks = λ t none. h.looks t;
-  }
-
-  -- none was found under the lock
-  module _ (locked : O) (text : List ℕ) (now : O) (error : TantivyError) (is : IsSchema schema text) (under : IsUnderLock g outside locked) (back : GivesBack g locked text now error) where
-    abbrev none : FindsNone g locked text back.found error
-    none = back.none
-
-    reads_back : g.told.content → Same (g.view back.found).reads (g.view now).reads
-    reads_back = back.frees.frame.content
+  -- none was found under the lock, which was given back
+  module _ (locked found now : O) (text : List ℕ) (error : TantivyError) (is : IsSchema schema text) (under : IsUnderLock g outside locked) (none : FindsNone g locked text found error)
+      (frees : Frees g.told writer_lock_name (g.view found) (g.view now)) (keeps : g.tells_images → KeepsDisk (g.disk found) (g.disk now)) where
+    reads_back : g.told.content → Same (g.view found).reads (g.view now).reads
+    reads_back = frees.frame.content
 
     -- a refusal that writes nothing is one of bytes
     of_bytes : WritesNone g outside error → IsRefusedBytes error
     of_bytes (inl first) = first_bytes g.told.content text (g.view locked).reads _ _ error first none.cause
     of_bytes (inr held) = absurd (true≢false (sym held.1 ∙ (under.took held.0).was_free))
 
+    heard : (g.view now).heard ≡ (g.view outside).heard
+    heard = frees.frame.tells_none.heard ∙ none.frame.notes.frame.tells_none.heard ∙ under.only.tells_none.heard
+
     noted_back : MayNote meta_name (g.view outside).watched (g.view now).watched
     noted_back =
         subst (λ (w : WatchState). MayNote meta_name w (g.view now).watched) under.only.watched
-        (subst (λ (w : WatchState). MayNote meta_name (g.view locked).watched w) (sym back.frees.frame.watched) none.frame.notes.watched)
-
-    quiet_at : (g.view now).faults ≡ (g.view back.found).faults
-    quiet_at = back.frees.faults
+        (subst (λ (w : WatchState). MayNote meta_name (g.view locked).watched w) (sym frees.frame.watched) none.frame.notes.watched)
 
     -- why, as it is counted from before the lock on
     counted : OpenCause g.told.content text (g.view locked).reads (Rose (g.view outside).faults (g.view now).faults) ((g.view now).faults ≡ (g.view outside).faults) error
     counted =
         subst (λ (n : ℕ). OpenCause g.told.content text (g.view locked).reads (Rose n (g.view now).faults) ((g.view now).faults ≡ n) error) under.quiet
-        (subst (λ (n : ℕ). OpenCause g.told.content text (g.view locked).reads (Rose (g.view locked).faults n) (n ≡ (g.view locked).faults) error) (sym quiet_at) none.cause)
+        (subst (λ (n : ℕ). OpenCause g.told.content text (g.view locked).reads (Rose (g.view locked).faults n) (n ≡ (g.view locked).faults) error) (sym frees.faults) none.cause)
 
-    pub given_back : NotFound g outside schema now error
+    pub given_back : OpensOrRefuses g outside schema (Err (record { error = error; directory = now }))
     given_back = record {
-      leaves = λ t. record {
-        spelled = λ own same.
-            subst (LeavesUnopened (g.view outside).reads (g.view now).reads) (is.text_is ∙ sym same.text_is)
-            (from_lock g under (λ reads. LeavesUnopened reads (g.view now).reads text) t (unopened_then (g.view locked).reads (g.view back.found).reads (g.view now).reads text (none.leaves t) (reads_back t)));
-        unspelled = λ never. absurd (never text is);
+      opens = tt;
+      leaves = record {
+        leaves = λ t. record {
+          spelled = λ own same.
+              subst (LeavesUnopened (g.view outside).reads (g.view now).reads) (is.text_is ∙ sym same.text_is)
+              (from_lock g under (λ reads. LeavesUnopened reads (g.view now).reads text) t (unopened_then (g.view locked).reads (g.view found).reads (g.view now).reads text (none.leaves t) (reads_back t)));
+          unspelled = λ never. absurd (never text is);
+        };
+        unchanged = λ t first n. reads_back t n ∙ none.unchanged t (of_bytes first) n ∙ under.only.content t n;
       };
-      unchanged = λ t first n. reads_back t n ∙ none.unchanged t (of_bytes first) n ∙ under.only.content t n;
-      heard = back.frees.frame.tells_none.heard ∙ none.frame.notes.frame.tells_none.heard ∙ under.only.tells_none.heard;
-      locks = λ t. freed_after (g.view outside).locks (g.view locked).locks (g.view back.found).locks (g.view now).locks writer_lock_name (under.took t) (none.frame.notes.frame.locks t) (back.frees.freed t);
-      writes = inr (locked, under);
-      cause = found_cause (opening_facts g outside now) schema text (g.view outside).reads error is
-          (open_cause_at g.told.content text (g.view locked).reads (g.view outside).reads _ _ _ _ error under.only.content inl inl counted);
+      tells = record { ok = λ t. tt; err = λ t. inl heard; part = λ t h index. inl heard };
+      locks = record {
+        ok = λ t. tt;
+        under = tt;
+        err = λ t. freed_after (g.view outside).locks (g.view locked).locks (g.view found).locks (g.view now).locks writer_lock_name (under.took t) (none.frame.notes.frame.locks t) (frees.freed t);
+        writes = inr (locked, under);
+      };
+      faults = record {
+        quiet = tt;
+        cause =
+            found_cause (opening_facts g outside now) schema text (g.view outside).reads error is
+            (open_cause_at g.told.content text (g.view locked).reads (g.view outside).reads _ _ _ _ error under.only.content inl inl counted);
+      };
       frame = record {
-        deletes_none = deletes_then under.only.tells_none.deletes_none (deletes_then none.frame.notes.frame.tells_none.deletes_none back.frees.frame.tells_none.deletes_none);
-        dotted = λ t n dot other. reads_back t n ∙ dotted_others (g.view locked).reads (g.view back.found).reads meta_name refl (none.leaves t).others n dot other ∙ under.only.content t n;
-        watched = noted_back;
+        ok = tt;
+        err = record {
+          deletes_none = deletes_then under.only.tells_none.deletes_none (deletes_then none.frame.notes.frame.tells_none.deletes_none frees.frame.tells_none.deletes_none);
+          dotted = λ t n dot other. reads_back t n ∙ dotted_others (g.view locked).reads (g.view found).reads meta_name refl (none.leaves t).others n dot other ∙ under.only.content t n;
+          watched = noted_back;
+        };
+        stood = λ tells. frees.frame.watched ∙ none.frame.unless (tells.0, subst IsSome (sym (under.only.content tells.0 meta_name)) tells.1) ∙ under.only.watched;
+        made = tt;
+        unnoted = λ first. frees.frame.watched ∙ none.unnoted (of_bytes first) ∙ under.only.watched;
       };
-      stood = λ tells. back.frees.frame.watched ∙ none.frame.unless (tells.0, subst IsSome (sym (under.only.content tells.0 meta_name)) tells.1) ∙ under.only.watched;
-      unnoted = λ first. back.frees.frame.watched ∙ none.unnoted (of_bytes first) ∙ under.only.watched;
-      makes = λ t own same.
-          subst (λ (x : List ℕ). MayMake g (LacksMeta g outside) (first_text x) outside now) (is.text_is ∙ sym same.text_is)
-          (makes_behind g (first_text text) (lacked g under) (under.looks t)
-          (makes_then g (first_text text) (LacksMeta g locked) (none.makes t) (looks_kept g (back.keeps t))));
-      looks = λ t first. looks_then g (under.looks t) (looks_then g (none.spares t (of_bytes first)) (looks_kept g (back.keeps t)));
+      safe = λ t. record {
+        ok = tt;
+        tracks = tt;
+        err = λ own same.
+            subst (λ (x : List ℕ). MayMake g (LacksMeta g outside) (first_text x) outside now) (is.text_is ∙ sym same.text_is)
+            (makes_behind g (first_text text) (lacked g under) (under.looks t) (makes_then g (first_text text) (LacksMeta g locked) (none.makes t) (looks_kept g (keeps t))));
+        looks = λ first. looks_then g (under.looks t) (looks_then g (none.spares t (of_bytes first)) (looks_kept g (keeps t)));
+      };
     }
 
 -- ---- under the lock

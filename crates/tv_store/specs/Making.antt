@@ -5,8 +5,6 @@ use Rattle.tv_base.specs.declared.error.DataCorruption.{DataCorruption}
 use Rattle.tv_base.specs.declared.error.TantivyError.{TantivyError}
 use Rattle.tv_base.specs.declared.error.TantivyError.TheVariants as errors
 use Rattle.tv_device.specs.declared.directory.Directory.{Ghosts}
-use Rattle.tv_device.specs.Calls.{Frees}
-use Rattle.tv_device.specs.Images.{KeepsDisk}
 use Rattle.tv_device.specs.View.{OnlyReads, OnlyTells}
 use Rattle.tv_index.specs.Crashes.{LacksMeta, MayMake, OnlyLooks, TracksFrom}
 use Rattle.tv_index.specs.Opening.{Finds, FrameNotesFirst, IsRefusedBytes, LeavesFound, LeavesUnopened, NamesListFile, NotesMade, OpenCause, first_text}
@@ -74,6 +72,12 @@ ReadingCause g old new names =
     (λ error. g.told.content → MeetsRefused (g.view old).reads names error)
     (λ path. g.told.content → MeetsMissing (g.view old).reads names path))
 
+-- What an opening does of this catalog: it reads the files that its commit requires, and tells its opening
+-- line.
+pub record IsPlanned (catalog : Catalog) (required : List (List ℕ)) (line : List ℕ) : Type 0 where
+  pub reads : required ≡ all_required catalog.commit.segments
+  pub tells : line ≡ opening_of catalog.commit
+
 -- The index that stands in this directory was found, or a new one was made, of which a notice stands:
 -- its settings and its schema, its catalog, and its files, none of them open; no collection was begun.
 pub record FindsFiles {O W C : Type 0} (g : Ghosts O W C) (locked : O) (schema : List ℕ)
@@ -109,15 +113,6 @@ pub record FindsNone {O W C : Type 0} (g : Ghosts O W C) (locked : O) (schema : 
   pub frame : FrameNotesFirst g.told (g.view locked) (g.view now)
   pub makes : g.tells_images → MayMake g (LacksMeta g locked) (first_text schema) locked now
   pub spares : g.tells_images → IsRefusedBytes error → OnlyLooks g locked now
-
--- The same once the lock was given back.
-pub record GivesBack {O W C : Type 0} (g : Ghosts O W C) (locked : O) (schema : List ℕ) (now : O)
-    (error : TantivyError) : Type 0 where
-  -- the directory, still under the lock
-  pub found : O
-  pub none : FindsNone g locked schema found error
-  pub frees : Frees g.told writer_lock_name (g.view found) (g.view now)
-  pub keeps : g.tells_images → KeepsDisk (g.disk found) (g.disk now)
 
 -- Each of these files can be read; or the first that can't be is refused, or the device refused a call,
 -- or memory was wanted.

@@ -112,3 +112,14 @@ pub record OpensSafely {O W C : Type 0} (g : Ghosts O W C) (outside : O) (schema
       → MayMake g (LacksMeta g outside) (first_text text) outside refused.directory)
   pub looks : IfErr result (λ refused. WritesNone g outside refused.error
       → OnlyLooks g outside refused.directory)
+
+-- All of it, as one promise of an opening.
+pub record OpensOrRefuses {O W C : Type 0} (g : Ghosts O W C) (outside : O) (schema : List ℕ)
+    (result : Result (StoreState O) (Refused O)) : Type 0 where
+  pub opens : IfOk result (Opens g outside schema)
+  pub leaves : IfErr result (LeavesIndex g outside schema)
+  pub tells : TellsOpening g outside schema result
+  pub locks : TakesWriterLock g outside result
+  pub faults : OpeningFaults g outside schema result
+  pub frame : OpeningFrame g outside result
+  pub safe : g.tells_images → OpensSafely g outside schema result

@@ -10,21 +10,13 @@ use Rattle.tv_device.specs.View.{OnlyLocks, OnlyReads}
 use Rattle.tv_device.specs.declared.directory.Directory.{Ghosts}
 use Rattle.tv_index.specs.Crashes.{LacksMeta, MayMake, OnlyLooks}
 use Rattle.tv_index.specs.Openable.{IsOpenable}
-use Rattle.tv_index.specs.Opening.{Finds, LeavesFound, NotesNone, OpenCause, first_text}
-use Rattle.tv_formats.specs.Files.{Reads, Rose, Same}
+use Rattle.tv_index.specs.Opening.{Finds, LeavesFound, OpenCause, first_text}
+use Rattle.tv_formats.specs.Files.{Reads, Rose}
 use Rattle.tv_formats.specs.Schemas.{IsSchema}
 use Rattle.tv_machine.specs.State.{Catalog}
 use Rattle.tv_store.specs.Kept.{FilesState, StoreState}
-use Rattle.tv_store.specs.Making.{FindsFiles, LeavesRefused, WritesNone}
-use Rattle.tv_store.specs.OpeningCauses.{OpeningCause, opening_facts}
-use Rattle.tv_store.specs.Stays.{MayNotify}
+use Rattle.tv_store.specs.Making.{FindsFiles}
 use Rattle.tv_store.specs.StoreCauses.{writer_lock_name}
-
--- The directory was only read from, and no call was refused; a crash leaves no more than it might.
-pub record Syncs {O W C : Type 0} (g : Ghosts O W C) (outside synced : O) : Type 0 where
-  pub quiet : (g.view synced).faults ≡ (g.view outside).faults
-  pub frame : OnlyReads g.told (g.view outside) (g.view synced)
-  pub looks : g.tells_images → OnlyLooks g outside synced
 
 -- This is the directory that was handed in, under the lock of its writer, which was free. Nothing else
 -- changed, no call was refused, and a crash leaves no more than it might.
@@ -59,15 +51,6 @@ abbrev pub RefusesLock : {O W C : Type 0} → Ghosts O W C → (outside : O) →
 RefusesLock g outside schema lock.LockBusy now error = LockedOut g outside schema now error
 RefusesLock g outside schema why now error = (now ≡ outside) × (error ≡ of_lock why)
 
--- The lock of the writer wasn't given. The directory was only read from, and comes back; why, is said
--- of any bytes that spell this schema.
-pub record NotUnderLock {O W C : Type 0} (g : Ghosts O W C) (outside : O) (text : List ℕ) (now : O)
-    (error : TantivyError) : Type 0 where
-  pub cause : (schema : List ℕ) → IsSchema schema text
-      → OpeningCause (opening_facts g outside now) schema (g.view outside).reads error
-  pub frame : OnlyReads g.told (g.view outside) (g.view now)
-  pub looks : g.tells_images → OnlyLooks g outside now
-
 -- The index was found, or made, in the directory that was handed in, under the lock of its writer.
 pub record FindsUnderLock {O W C : Type 0} (g : Ghosts O W C) (outside : O) (schema : List ℕ)
     (catalog : Catalog) (files : FilesState O) : Type 0 where
@@ -80,24 +63,6 @@ pub record FindsUnderLock {O W C : Type 0} (g : Ghosts O W C) (outside : O) (sch
 abbrev pub WritesUnderLock : {O W C : Type 0} → Ghosts O W C → (outside now : O) → Type 0
 WritesUnderLock {O = O} g outside now =
     OnlyReads g.told (g.view outside) (g.view now) ⊎ ((locked : O) × IsUnderLock g outside locked)
-
--- None was, or the lock wasn't given, or the bytes spell no schema. The directory comes back, with the
--- locks that it had, and was written only once that of the writer was taken.
-pub record NotFound {O W C : Type 0} (g : Ghosts O W C) (outside : O) (schema : List ℕ) (now : O)
-    (error : TantivyError) : Type 0 where
-  pub leaves : g.told.content → LeavesRefused (g.view outside).reads (g.view now).reads schema
-  pub unchanged : g.told.content → WritesNone g outside error
-      → Same (g.view outside).reads (g.view now).reads
-  pub heard : (g.view now).heard ≡ (g.view outside).heard
-  pub locks : g.told.locks → SameLocks (g.view outside).locks (g.view now).locks
-  pub writes : WritesUnderLock g outside now
-  pub cause : OpeningCause (opening_facts g outside now) schema (g.view outside).reads error
-  pub frame : MayNotify g.told (g.view outside) (g.view now)
-  pub stood : NotesNone g.told (g.view outside) (g.view now)
-  pub unnoted : WritesNone g outside error → (g.view now).watched ≡ (g.view outside).watched
-  pub makes : g.tells_images → (text : List ℕ) → IsSchema schema text
-      → MayMake g (LacksMeta g outside) (first_text text) outside now
-  pub looks : g.tells_images → WritesNone g outside error → OnlyLooks g outside now
 
 -- An opening reads all that it goes by, and writes all that it writes, under the lock of the writer:
 -- there is a directory that is the one handed in but for that lock, which was free. What the store

@@ -18,7 +18,6 @@ use crate::action::{Change, Reply};
 use crate::chosen::choose;
 use crate::commit::{Commit, listed};
 use crate::names::{file_of, names_among, needed_names};
-use crate::opening::next_after;
 use crate::readers::Readers;
 use crate::snapshot::Snapshot;
 use std::alloc::Global;
@@ -75,6 +74,15 @@ impl Catalog {
         }
     }
 
+    /// That of an index that was just opened with this commit.
+    pub(crate) fn opened(alloc: Global, commit: Commit) -> Result<Catalog, Memory>
+        ensures opened { IfOk result (λ catalog. catalog ≡ as_opened catalog) }
+        ensures commit { IfOk result (λ catalog. catalog.commit ≡ commit) }
+    {
+        let live = commit.by_id().clone()?;
+        Ok(Catalog::new(alloc, live, commit.next_opstamp(), commit))
+    }
+
     /// The live segment of this id. Takes no memory.
     pub(crate) fn live_segment(&self, id: SegmentId) -> Option<LiveSegment>
         ensures { result ≡ live_at self.now id }
@@ -124,7 +132,7 @@ impl Catalog {
         ensures { self.new ≡ as_opened self.old }
     {
         self.live = segments;
-        self.next = next_after(self.commit.opstamp());
+        self.next = self.commit.next_opstamp();
         self.readers = Readers::new(self.alloc);
     }
 

@@ -1,19 +1,23 @@
 //! The current commit, and how it is printed.
-ghost use Rattle.std.specs.Prelude.{◌≡◌, ◌<◌, ◌^◌, ◌++◌, [], ◌∷◌, IfOk, is_some, length, option_map, string_bytes};
+ghost use Rattle.std.specs.Prelude.{◌≡◌, ◌<◌, ◌^◌, ◌++◌, [], ◌∷◌, IfOk, is_some, length, map, option_map, string_bytes};
 ghost use Rattle.std.specs.Option.{option_copied};
 ghost use Rattle.tv_formats.specs.Commits.{printed};
 ghost use Rattle.tv_formats.specs.Names.{at};
+ghost use Rattle.tv_metas.specs.Segments.{entry_of};
 ghost use Rattle.tv_metas.specs.Settings.{settings_view};
+ghost use Rattle.tv_machine.specs.Index.{next_after};
+ghost use Rattle.tv_machine.specs.Lines.{opening_of};
+ghost use Rattle.tv_store.specs.Making.{IsSorted};
 
 use std::alloc::Global;
 use std::collections::BTreeMap;
 use std::marker::Model;
 use tv_formats::{LiveSegment, Memory, Opstamp, SegmentId};
-use tv_index::{IndexSettings, Schema, metas_of, print_meta};
-use tv_machine::Text;
+use tv_index::{IndexSettings, InnerSegmentMeta, Schema, metas_of, print_meta};
+use tv_machine::{Answer, Text};
 
-/// A payload, as a commit has it. Takes no memory.
-pub(crate) fn text_of(payload: Option<String>) -> Option<Text>
+// A payload, as a commit has it. Takes no memory.
+fn text_of(payload: Option<String>) -> Option<Text>
     ensures { result ≡ option_map string_bytes payload }
 {
     match payload {
@@ -22,12 +26,27 @@ pub(crate) fn text_of(payload: Option<String>) -> Option<Text>
     }
 }
 
+// The segments of a commit by their ids, in whose order they stand.
+fn segments_by_id(
+    alloc: Global,
+    segments: &[InnerSegmentMeta],
+) -> Result<BTreeMap<SegmentId, LiveSegment>, Memory>
+    requires { IsSorted (map entry_of segments.now) }
+    ensures { IfOk result (λ by_id. by_id.entries ≡ map entry_of segments.now) }
+{
+    let mut by_id = BTreeMap::new(alloc);
+    for segment in segments {
+        by_id.insert(segment.segment_id, segment.live())?;
+    }
+    Ok(by_id)
+}
+
 /// A commit: its number, what its writer added, and its segments by id.
 #[derive(Drop)]
 pub(crate) struct Commit {
-    opstamp: Opstamp,
-    payload: Option<Text>,
-    segments: BTreeMap<SegmentId, LiveSegment>,
+    pub(crate) opstamp: Opstamp,
+    pub(crate) payload: Option<Text>,
+    pub(crate) segments: BTreeMap<SegmentId, LiveSegment>,
 }
 
 impl Model for Commit {
@@ -62,6 +81,24 @@ impl Commit {
         }
     }
 
+    /// The commit that `meta.json` has, whose segments stand in the order of their ids.
+    pub(crate) fn from_meta(
+        alloc: Global,
+        opstamp: Opstamp,
+        payload: Option<String>,
+        segments: &[InnerSegmentMeta],
+    ) -> Result<Commit, Memory>
+        requires { IsSorted (map entry_of segments.now) }
+        ensures { IfOk result (λ commit. commit ≡ record {
+          opstamp = opstamp;
+          payload = option_map string_bytes payload;
+          segments = map entry_of segments.now;
+        }) }
+    {
+        let segments = segments_by_id(alloc, segments)?;
+        Ok(Commit::new(opstamp, text_of(payload), segments))
+    }
+
     /// Its number.
     pub(crate) fn opstamp(&self) -> Opstamp
         ensures { result ≡ self.now.opstamp }
@@ -74,6 +111,22 @@ impl Commit {
         ensures { result ≡ length self.now.segments }
     {
         self.segments.len()
+    }
+
+    /// The number of the commit after it. Takes no memory.
+    pub(crate) fn next_opstamp(&self) -> Opstamp
+        ensures { result ≡ next_after self.now.opstamp }
+    {
+        self.opstamp.saturating_add(1)
+    }
+
+    /// The line of an opening that finds it.
+    pub(crate) fn opening_line(&self, alloc: Global) -> Result<Answer, Memory>
+        ensures { IfOk result (λ line. line ≡ opening_of self.now) }
+    {
+        Answer::new(alloc, "open")?
+            .number(self.opstamp)?
+            .number(self.len() as u64)
     }
 
     /// Its segments, in the order of their ids.

@@ -9,7 +9,7 @@ ghost use Rattle.tv_formats.specs.Names.{byte_cmp, has, is_plain, is_file_name, 
 ghost use Rattle.tv_formats.specs.Footer.{sealed};
 ghost use Rattle.tv_formats.specs.Collections.{no_collections};
 ghost use Rattle.tv_formats.specs.Files.{Sets, KeepsOthers, has_no_feed};
-ghost use Rattle.tv_device.specs.Calls.{DeviceFaults, Frees, LockFaults, Acquires, MakesRoom, TellsLineTo};
+ghost use Rattle.tv_device.specs.Calls.{DeviceFaults, Frees, LockFaults, Acquires, MakesRoom};
 ghost use Rattle.tv_device.specs.Images.{KeepsDisk};
 ghost use Rattle.tv_device.specs.View.{Kept, OnlyReads, OnlyLocks, OnlyTells};
 ghost use Rattle.tv_machine.specs.Index.{IsFileOf};
@@ -22,6 +22,7 @@ ghost use Rattle.tv_metas.specs.Settings.{settings_view};
 ghost use Rattle.tv_index.specs.Standing.{LoadsMeta, MetaFaults};
 ghost use Rattle.tv_store.specs.Kept.{names_below};
 ghost use Rattle.tv_store.specs.Stays.{KeepsFiles, KeepsMade, OnlyWrites, EventFaults, Faults};
+ghost use Rattle.tv_store.specs.Telling.{TriesLine};
 
 use std::alloc::Global;
 use std::collections::{BTreeMap, BTreeSet};
@@ -30,6 +31,7 @@ use tv_base::{FileSlice, IoFault, IoKind, LockError, OpenReadError, OpenWriteErr
 use tv_device::{Directory, DirectoryLock, Lock, Outside};
 use tv_formats::{FileName, Memory};
 use tv_index::{Index, IndexSettings, Schema, UntrackedIndexMeta, save_meta_text};
+use tv_machine::Answer;
 use tv_managed::ManagedWriter;
 
 /// A file that is being written, and how many bytes were.
@@ -201,18 +203,17 @@ impl<O: Outside> StoreFiles<O> {
         self.index.directory_mut().ready(len)
     }
 
-    /// Tells a line, in the room that was made.
-    pub(crate) fn tell(&mut self, line: &[u8]) -> Result<(), IoFault>
-        requires room { length line.now < (O.view self.old.outside).room }
-        requires feed { has_no_feed line.now ≡ true }
-        ensures tells { TellsLineTo O.told (O.view self.old.outside) (O.view self.new.outside)
+    /// Tells an answer, in the room that was made.
+    pub(crate) fn tell(&mut self, line: &Answer) -> Result<(), IoFault>
+        requires { length line.now < (O.view self.old.outside).room }
+        ensures tells { TriesLine O.told (O.view self.old.outside) (O.view self.new.outside)
             line.now result }
         ensures faults { DeviceFaults (O.view self.old.outside) (O.view self.new.outside) result }
         ensures frame { KeepsFiles (OnlyTells O.told) O.view self.old self.new }
         ensures images { O.tells_images
             → KeepsDisk (O.disk self.old.outside) (O.disk self.new.outside) }
     {
-        self.index.directory_mut().tell(line)
+        self.index.directory_mut().tell(line.as_slice())
     }
 
     /// Takes a lock.

@@ -8,7 +8,7 @@ ghost use Rattle.tv_device.specs.View.{OnlyReads, OnlyTells};
 ghost use Rattle.tv_store.specs.Acting.{Acts};
 ghost use Rattle.tv_store.specs.Applying.{Stepped, LeavesMeta, Grows, ApplyFaults, AppliesFrame, AsksNoFile, IsUndisturbedEvent};
 ghost use Rattle.tv_store.specs.Kept.{Holds, IsHeld};
-ghost use Rattle.tv_store.specs.Opening.{Opens, LeavesIndex, TellsOpening, TakesWriterLock, OpeningFaults, OpeningFrame, OpensSafely};
+ghost use Rattle.tv_store.specs.Opening.{Opens, LeavesIndex, TellsOpening, TakesWriterLock, OpeningFaults, OpeningFrame, OpensOrRefuses, OpensSafely};
 ghost use Rattle.tv_store.specs.StoreCauses.{writer_lock_name};
 ghost use Rattle.tv_store.specs.Telling.{TellsAnswer, TriesLine};
 
@@ -62,6 +62,34 @@ fn close<O: Outside>(files: StoreFiles<O>, lock: DirectoryLock) -> O
     directory
 }
 
+// Opens the index that stands in a directory, or makes one with this schema.
+fn open_index<O: Outside>(
+    alloc: Global,
+    outside: O,
+    schema: &[u8],
+) -> Result<IndexStore<O>, Refused<O>>
+    ensures { OpensOrRefuses O.Directory outside schema.now result }
+{
+    let Found {
+        opening,
+        mut files,
+        lock,
+    } = find(alloc, outside, schema)?;
+    match begin(&mut files, opening) {
+        Ok(catalog) => Ok(IndexStore {
+            alloc,
+            catalog,
+            files,
+            lock,
+            is_open: true,
+        }),
+        Err(error) => Err(Refused {
+            error,
+            directory: close(files, lock),
+        }),
+    }
+}
+
 impl<O: Outside> IndexStore<O> {
     /// Opens the index that stands in a directory, or makes one with this schema where there is no
     /// `meta.json`; sees that the files of the commit can be read, and tells the opening line. The writer
@@ -82,24 +110,7 @@ impl<O: Outside> IndexStore<O> {
         ensures frame { OpeningFrame O.Directory outside result }
         ensures safe { O.tells_images → OpensSafely O.Directory outside schema.now result }
     {
-        let Found {
-            catalog,
-            mut files,
-            lock,
-        } = find(alloc, outside, schema)?;
-        match begin(alloc, catalog.commit(), &mut files) {
-            Ok(()) => Ok(IndexStore {
-                alloc,
-                catalog,
-                files,
-                lock,
-                is_open: true,
-            }),
-            Err(error) => Err(Refused {
-                error,
-                directory: close(files, lock),
-            }),
-        }
+        open_index(alloc, outside, schema)
     }
 
     /// Makes one step of the machine, and tells its line. A commit writes `meta.json`, unless it is
@@ -132,7 +143,7 @@ impl<O: Outside> IndexStore<O> {
         ensures faults { DeviceFaults (O.view self.old.outside) (O.view self.new.outside) result }
         ensures frame { OnlyTells O.told (O.view self.old.outside) (O.view self.new.outside) }
     {
-        let told = self.files.tell(answer.as_slice());
+        let told = self.files.tell(answer);
         self.is_open = told.is_ok();
         told
     }

@@ -1,8 +1,8 @@
 //! The current commit is loaded, with the bodies of its files.
-ghost use Rattle.std.specs.Prelude.{◌≡◌, map, IfOk, OnOk};
+ghost use Rattle.std.specs.Prelude.{◌≡◌, Some, map, IfOk, OnOk};
 ghost use Rattle.tv_device.specs.View.{OnlyReads};
 ghost use Rattle.tv_formats.specs.Segments.{all_required, required_names};
-ghost use Rattle.tv_metas.specs.Segments.{entry_of};
+ghost use Rattle.tv_index.specs.Standing.{MetaFaults};
 ghost use Rattle.tv_machine.specs.Readable.{CanRead};
 ghost use Rattle.tv_machine.specs.ReaderEvents.{snapshot_in};
 ghost use Rattle.tv_machine.specs.SoundStates.{IsWhole};
@@ -12,7 +12,7 @@ ghost use Rattle.tv_store.specs.Performing.{FilesHold, LoadFaults};
 ghost use Rattle.tv_store.specs.SnapshotCalls.{BodiesFaults, CommitFaults};
 ghost use Rattle.tv_store.specs.Stays.{KeepsFiles};
 
-use crate::commit::text_of;
+use crate::commit::Commit;
 use crate::files::StoreFiles;
 use crate::names::required_of;
 use crate::snapshot::{SegmentReader, Snapshot};
@@ -20,7 +20,6 @@ use std::alloc::Global;
 use tv_base::{FileSlice, TantivyError};
 use tv_device::{Outside, meta_lock};
 use tv_formats::{FileName, LiveSegment, SegmentId};
-use tv_index::InnerSegmentMeta;
 
 // The bodies of some sealed files, in their order.
 fn read_bodies<O: Outside>(
@@ -73,26 +72,43 @@ fn read_segment<O: Outside>(
 fn read_segments<O: Outside>(
     alloc: Global,
     files: &mut StoreFiles<O>,
-    segments: &[InnerSegmentMeta],
+    segments: &[(SegmentId, LiveSegment)],
 ) -> Result<Vec<SegmentReader>, TantivyError>
     ensures readers { O.told.content → (s : State)
         → FilesHold O.Directory files.old s
-        → AreSealed s (all_required (map entry_of segments.now))
-        → IfOk result (λ readers. ReadsSegments s (map entry_of segments.now)
+        → AreSealed s (all_required segments.now)
+        → IfOk result (λ readers. ReadsSegments s segments.now
         (map (λ r. (r.id, r.segment)) readers.items)
         (map (λ r. r.bodies.items) readers.items)) }
     ensures good { O.told.content → OnOk result (AreGood
-        (O.view files.old.outside).reads (all_required (map entry_of segments.now))) }
+        (O.view files.old.outside).reads (all_required segments.now)) }
     ensures faults { BodiesFaults O.Directory files.old.outside files.new.outside
-        (all_required (map entry_of segments.now)) result }
+        (all_required segments.now) result }
     ensures frame { KeepsFiles (OnlyReads O.told) O.view files.old files.new }
 {
     let mut readers = Vec::new(alloc);
-    for segment in segments {
-        let reader = read_segment(alloc, files, segment.segment_id, segment.live())?;
+    for entry in segments {
+        let (id, segment) = *entry;
+        let reader = read_segment(alloc, files, id, segment)?;
         readers.push(reader)?;
     }
     Ok(readers)
+}
+
+// The commit that `meta.json` means.
+fn read_commit<O: Outside>(alloc: Global, files: &mut StoreFiles<O>) -> Result<Commit, TantivyError>
+    ensures commit { O.told.content → (s : State)
+        → FilesHold O.Directory files.old s
+        → IfOk result (λ commit. commit ≡ s.catalog.commit) }
+    ensures faults { MetaFaults O.Directory files.old.outside files.new.outside
+        (Some files.old.form.schema) result }
+    ensures frame { KeepsFiles (OnlyReads O.told) O.view files.old files.new }
+{
+    let meta = files.load_untracked_metas(alloc)?;
+    let payload = meta.payload;
+    let segments = meta.segments.as_slice();
+    let commit = Commit::from_meta(alloc, meta.opstamp, payload, segments)?;
+    Ok(commit)
 }
 
 // The commit that `meta.json` means with the bodies of its files, under this number, as they read now.
@@ -107,10 +123,10 @@ fn read_snapshot<O: Outside>(
     ensures faults { CommitFaults O.Directory files.old files.new result }
     ensures frame { KeepsFiles (OnlyReads O.told) O.view files.old files.new }
 {
-    let meta = files.load_untracked_metas(alloc)?;
-    let segments = read_segments(alloc, files, meta.segments.as_slice())?;
-    let payload = text_of(meta.payload);
-    Ok(Snapshot::new(generation, meta.opstamp, payload, segments))
+    let commit = read_commit(alloc, files)?;
+    let segments = commit.segments(alloc)?;
+    let readers = read_segments(alloc, files, segments.as_slice())?;
+    Ok(Snapshot::new(generation, commit, readers))
 }
 
 /// The commit that `meta.json` means with the bodies of its files, under this number. All is read while

@@ -12,7 +12,6 @@ use crate::action::{Action, Change};
 use crate::catalog::Catalog;
 use crate::files::StoreFiles;
 use crate::names::{file_of, names_of};
-use crate::opening::opening_line;
 use crate::plan::{Planned, refusal};
 use std::alloc::Global;
 use tv_base::TantivyError;
@@ -130,7 +129,7 @@ pub(crate) fn plan_reopen<'a, O: Outside>(
     ensures cause { IfErr result (PlanCause (kept_of catalog.now files.now) events.Reopen) }
 {
     let segments = catalog.committed()?;
-    let answer = opening_line(alloc, catalog.commit())?;
+    let answer = catalog.commit().opening_line(alloc)?;
     Ok(Planned {
         action: Action::Reopen,
         change: Change::Reopen(segments),

@@ -4,6 +4,7 @@ ghost use Rattle.std.specs.Option.{option_copied, option_map};
 ghost use Rattle.tv_machine.specs.SearcherEvents.{place_of, body_at, segment_word, show_line, bytes_line};
 ghost use Rattle.tv_machine.specs.Lines.{line};
 
+use crate::commit::Commit;
 use std::alloc::Global;
 use std::marker::Model;
 use tv_base::FileSlice;
@@ -93,22 +94,18 @@ impl Model for Snapshot {
 
 impl Snapshot {
     /// A commit, shown under this number with the bodies of its segments. Takes no memory.
-    pub(crate) fn new(
-        generation: u64,
-        opstamp: Opstamp,
-        payload: Option<Text>,
-        segments: Vec<SegmentReader>,
-    ) -> Snapshot
+    pub(crate) fn new(generation: u64, commit: Commit, segments: Vec<SegmentReader>) -> Snapshot
         ensures { result ≡ record {
           generation = generation;
-          commit = record {
-            opstamp = opstamp;
-            payload = payload;
-            segments = map (λ r. (r.id, r.segment)) segments.items;
-          };
+          commit = record commit { segments = map (λ r. (r.id, r.segment)) segments.items };
           bodies = map (λ r. r.bodies.items) segments.items;
         } }
     {
+        let Commit {
+            opstamp,
+            payload,
+            segments: _,
+        } = commit;
         Snapshot {
             generation,
             opstamp,

@@ -4,14 +4,13 @@ use Rattle.tv_formats.specs.Segments.{all_required}
 use Rattle.tv_store.specs.Bodies.{AreGood, AreSealed, ReadsSegments}
 use Rattle.tv_store.specs.Performing.{FilesHold}
 use Rattle.tv_device.specs.View.{OnlyReads}
-use Rattle.tv_metas.specs.Segments.{entry_of}
 use Rattle.tv_store.specs.Stays.{KeepsFiles}
 use Rattle.tv_store.proofs.loading.read_segments.Given as goal
 
-abbrev pub invariant-loop-segment : goal.invariant-loop-segment
-invariant-loop-segment g l = record {
-  read : g.O.Directory.told.content → (s : State) → FilesHold g.O.Directory l.initial.files s → AreSealed s (all_required (map entry_of l.segments)) → ReadsSegments s (take l.segment-index (map entry_of l.segments)) (map (λ r. (r.id, r.segment)) l.readers.items) (map (λ r. r.bodies.items) l.readers.items);
-  good : g.O.Directory.told.content → AreGood (g.O.Directory.view l.initial.files.outside).reads (all_required (take l.segment-index (map entry_of l.segments)));
+abbrev pub invariant-loop-entry : goal.invariant-loop-entry
+invariant-loop-entry g l = record {
+  read : g.O.Directory.told.content → (s : State) → FilesHold g.O.Directory l.initial.files s → AreSealed s (all_required l.segments) → ReadsSegments s (take l.entry-index l.segments) (map (λ r. (r.id, r.segment)) l.readers.items) (map (λ r. r.bodies.items) l.readers.items);
+  good : g.O.Directory.told.content → AreGood (g.O.Directory.view l.initial.files.outside).reads (all_required (take l.entry-index l.segments));
   frame : KeepsFiles (OnlyReads g.O.Directory.told) g.O.Directory.view l.initial.files l.files;
   quiet : (g.O.Directory.view l.files.outside).faults ≡ (g.O.Directory.view l.initial.files.outside).faults;
 }

@@ -1,20 +1,21 @@
-use Rattle.std.proofs.lemmas.Result.{IfErr-weaker}
+use Rattle.std.proofs.Common.{Err, subst}
+use Rattle.tv_device.specs.Calls.{Frees}
 use Rattle.tv_formats.proofs.Results.{handed_on}
-use Rattle.tv_store.specs.UnderLock.{NotFound}
-use Rattle.tv_store.proofs.Unfound.{given_back, not_locked, unspelled}
+use Rattle.tv_store.specs.Opening.{OpensOrRefuses}
+use Rattle.tv_store.proofs.Unfound.{given_back, unspelled}
 use Rattle.tv_store.proofs.opening.find.Goals as goal
 
-pub returns-in-Err-clause-none : goal.returns-in-Err-clause-none
-returns-in-Err-clause-none g c = unspelled g.O.Directory c.args.outside c.args.schema.now c.in-Err.error c.in-Err.ensures.err
+pub returns-in-Err-clause-refused : goal.returns-in-Err-clause-refused
+returns-in-Err-clause-refused g c = unspelled g.O.Directory c.args.outside c.args.schema.now c.in-Err.error c.in-Err.ensures.err
 
-pub returns-in_err-locked-clause-none : goal.returns-in_err-locked-clause-none
-returns-in_err-locked-clause-none g c =
-    let refused = c.in_err-locked.field-0.0 in
-    handed_on c.from_residual.result refused (λ r. NotFound g.O.Directory c.args.outside c.args.schema.now r.directory r.error) c.from_residual.ensures.1
-    (not_locked g.O.Directory c.args.outside c.args.schema.now c.in-Ok.schema refused.directory refused.error c.in-Ok.ensures.ok c.in_err-locked.ensures.refused)
+pub returns-in_err-outside-clause-refused : goal.returns-in_err-outside-clause-refused
+returns-in_err-outside-clause-refused g c =
+    handed_on c.from_residual.result c.in_err-outside.field-0.0 (λ refused. OpensOrRefuses g.O.Directory c.args.outside c.args.schema.now (Err refused)) c.from_residual.ensures.1
+    (c.in_err-outside.ensures.refused c.args.schema.now c.in-Ok.ensures.ok)
 
-pub returns-clause-none : goal.returns-clause-none
-returns-clause-none g c =
-    IfErr-weaker c.find_under_lock.result _ _
-    (λ refused back. given_back g.O.Directory c.args.outside c.args.schema.now c.in_ok-locked.locked.outside c.in-Ok.schema refused.directory refused.error c.in-Ok.ensures.ok c.in_ok-locked.ensures.locked back)
-    c.find_under_lock.ensures.none
+pub returns-clause-refused : goal.returns-clause-refused
+returns-clause-refused g c =
+    let D = g.O.Directory in
+    let found = c.in-Err-find_files.field-0.directory in
+    given_back D c.args.outside c.args.schema.now c.in_ok-outside.outside found c.release.new.self c.in-Ok.schema c.in-Err-find_files.field-0.error c.in-Ok.ensures.ok c.in_ok-outside.ensures.locked c.in-Err-find_files.ensures.none
+    (subst (λ n. Frees D.told n (D.view found) (D.view c.release.new.self)) c.in_ok-outside.ensures.name c.release.ensures.frees) c.release.ensures.images
