@@ -1,6 +1,6 @@
 //! Laws on which a user of this crate may rely. Each function makes the calls of which it speaks; its
 //! contract is the law.
-ghost use Rattle.std.specs.Prelude.{◌≡◌, ◌≤◌, ◌<◌, false, None, IfOk, IfSome, OnOk};
+ghost use Rattle.std.specs.Prelude.{◌≡◌, ◌≤◌, ◌<◌, ◌+◌, false, None, IfOk, IfSome, OnErr, OnOk};
 ghost use Rattle.std.specs.Prelude.{codes, length, string_bytes, take};
 ghost use Rattle.std.specs.Ordering.{nat_cmp, ordering_then};
 ghost use Rattle.futures.specs.Poll.{OnPending};
@@ -8,15 +8,17 @@ ghost use Rattle.futures.specs.Task.{IsArmed};
 
 use crate::address::DocAddress;
 use crate::error::TantivyError;
+use crate::exhausted::Exhausted;
 use crate::future_result::FutureResult;
 use crate::inventory::{Inventory, Ticket};
 use crate::library::version;
 use crate::names::is_plain_name;
+use crate::stamper::Stamper;
 use crate::vint::VInt;
 use futures::task::{Context, Poll};
 use std::alloc::{AllocError, Global};
 use std::cmp::Ordering;
-use tv_formats::Memory;
+use tv_formats::{Memory, Opstamp};
 
 /// An inventory gives a number once: that of a value which is taken in is no smaller than the next
 /// one was, and smaller than the next one is.
@@ -105,4 +107,37 @@ pub fn shows_the_version(alloc: Global) -> Result<String, AllocError>
     ensures { IfOk result (λ text. string_bytes text ≡ codes "tantivy v0.26.2, index_format v7") }
 {
     version().to_string(alloc)
+}
+
+/// A stamp is drawn once: of two that are drawn one after the other, the second is the larger. So the
+/// numbers don't begin anew past the last one.
+pub fn draws_larger_stamps(stamper: &mut Stamper) -> Result<(Opstamp, Opstamp), Exhausted>
+    ensures { IfOk result (λ stamps. stamps.0 < stamps.1) }
+{
+    let first = stamper.stamp()?;
+    let second = stamper.stamp()?;
+    Ok((first, second))
+}
+
+/// Stamps that are drawn together aren't drawn again: the next one comes behind them.
+pub fn draws_stamps_once(stamper: &mut Stamper, n: u64) -> Result<Opstamp, Exhausted>
+    ensures { IfOk result (λ stamp. stamp ≡ stamper.old + n) }
+{
+    stamper.stamps(n)?;
+    stamper.stamp()
+}
+
+/// A refused draw draws nothing: the next stamp is the one that it was.
+pub fn draws_nothing_at_a_refusal(stamper: &mut Stamper) -> Result<Opstamp, Exhausted>
+    ensures { OnErr result (stamper.new ≡ stamper.old) }
+{
+    stamper.stamp()
+}
+
+/// Neither do refused draws of several stamps.
+pub fn draws_no_part_at_a_refusal(stamper: &mut Stamper, n: u64) -> Result<(), Exhausted>
+    ensures { OnErr result (stamper.new ≡ stamper.old) }
+{
+    stamper.stamps(n)?;
+    Ok(())
 }

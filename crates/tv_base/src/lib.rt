@@ -15,6 +15,7 @@ mod open_errors;
 mod sink;
 mod slices;
 mod source;
+mod stamper;
 mod versions;
 mod vint;
 mod writers;
@@ -32,6 +33,7 @@ pub use open_errors::{DeleteError, LockError, OpenDirectoryError, OpenReadError,
 pub use sink::{Sink, VecSink};
 pub use slices::{FileSlice, OwnedBytes};
 pub use source::{Source, TextSource};
+pub use stamper::Stamper;
 pub use tv_formats::{MANAGED_FILEPATH, META_FILEPATH, Memory, Opstamp};
 pub use versions::{
     INDEX_FORMAT_OLDEST_SUPPORTED_VERSION, INDEX_FORMAT_VERSION, Incompatibility, Version,

@@ -71,6 +71,8 @@ mod runs;
 #[cfg(test)]
 mod sealed_files;
 #[cfg(test)]
+mod stamps;
+#[cfg(test)]
 mod stores;
 #[cfg(test)]
 mod told;
