@@ -13,7 +13,7 @@ use Rattle.tv_machine.specs.State.{FileState, Left, Open, SealedFile, State, fil
 use Rattle.tv_crashes.specs.Stored.{ShowsWhole, sealed_bytes, stored_of}
 
 -- a file that is sealed with some bytes
-sealed_file : (file : Option FileState) (bytes : List ℕ) → sealed_bytes file ≡ Some bytes → file ≡ Some (SealedFile bytes)
+pub sealed_file : (file : Option FileState) (bytes : List ℕ) → sealed_bytes file ≡ Some bytes → file ≡ Some (SealedFile bytes)
 sealed_file None bytes e = absurd (cc e)
 sealed_file (Some (SealedFile own)) bytes e = ap (option_map SealedFile) e
 sealed_file (Some (Open body)) bytes e = absurd (cc e)

@@ -63,6 +63,7 @@ use Rattle.tv_replay.specs.Replays.{Replays, ReplayCause, StopsAtLine, LineRefus
 use Rattle.tv_store.specs.Applying.{Stepped}
 use Rattle.tv_store.specs.Exhausted.{IsExhausted, PassesEnd, SomePassesEnd}
 use Rattle.tv_replay.specs.AppliedEvents.{Applies, Runs, RunFaults, Causes, RunCause, run_causes, FailsRun, EndCause, IsErrorOf}
+use Rattle.tv_replay.proofs.AppliedWhole.{EventSurvives, ReplayLeaves, none_applied, one_more_whole}
 use Rattle.tv_replay.proofs.LineLemmas.{pending_some}
 use Rattle.tv_replay.proofs.Progress.{after-last, answers-last, events-last, readable-last, refused-last, AreLines-length, ReadSoFar, HasRead, nothing_read, one_more_read, all_read}
 
@@ -104,7 +105,7 @@ tells_by {from = from} {mid = mid} to le ts = record { pieces = ts.pieces; heard
 
 -- ---- events that fit
 
-fits-last : (events : List Event) (e : Event) → AllByRecursion Fits events → Fits e → AllByRecursion Fits (events ++ e ∷ [])
+pub fits-last : (events : List Event) (e : Event) → AllByRecursion Fits events → Fits e → AllByRecursion Fits (events ++ e ∷ [])
 fits-last [] e all fits = (fits, tt)
 fits-last (first ∷ events) e all fits = (all.0, fits-last events e all.1 fits)
 
@@ -184,6 +185,7 @@ starts g store held text none =
         readable = λ t s h w. tt;
         unlocked = λ t locks held s h w. tt;
         refused = inl (omega arith);
+        survives = λ t th s h w d. none_applied g store s d;
       };
     }
 
@@ -204,8 +206,8 @@ FreeAt g old now e = g.told.locks → (g.view old.outside).locks meta_lock_name 
 one_more_applied : {O W C : Type 0} (g : Ghosts O W C) (old now new : StoreState O) (turns : List Turn) (e : Event) (answer : List ℕ)
     → Applies g old now turns → Fits e → new.kept.form ≡ now.kept.form → FreeAt g old now e → (stepped : Stepped g now new e answer)
     → (g.told.heard → TellsLine (g.view now.outside).heard (g.view new.outside).heard (g.view now.outside).moment (g.view new.outside).moment answer)
-    → Applies g old new (turns ++ (e, stepped.outcomes) ∷ [])
-one_more_applied g old now new turns e answer a fits form free stepped said =
+    → EventSurvives g now new e (Ok answer) → Applies g old new (turns ++ (e, stepped.outcomes) ∷ [])
+one_more_applied g old now new turns e answer a fits form free stepped said survives =
     let t : Turn = (e, stepped.outcomes) in
     record {
       fits = subst (λ (es : List Event). AllByRecursion Fits es) (sym (events-last turns t)) (fits-last (events_of turns) e a.fits fits);
@@ -220,13 +222,20 @@ one_more_applied g old now new turns e answer a fits form free stepped said =
           unlocked_last s turns t (a.unlocked tell locks held s h w) (λ takes. free locks held (subst (λ (c : Catalog). TakesMetaLock c e) (sym (a.holds tell s h w).catalog) takes));
       refused = subst (λ (n : ℕ). RoseBy n (g.view old.outside).refusals (g.view new.outside).refusals) (sym (refused-last turns t))
           (rose_more (all_refused turns) (refused_in stepped.outcomes) (g.view old.outside).refusals (g.view now.outside).refusals (g.view new.outside).refusals a.refused stepped.refused);
+      survives = λ t th s h w d.
+          let held = a.holds (survives.0 t) s h w in
+          let whole = after_whole s turns w in
+          let so_far = a.survives t th s h w d in
+          let did = survives.1 t th (after s turns) held whole so_far.durable in
+          let steps = stepped.each (survives.0 t) (after s turns) held whole in
+          one_more_whole g old now new s turns e stepped.outcomes a.form so_far (did.ok stepped.outcomes steps.told steps.held) (did.durable (step (after s turns) e stepped.outcomes).1 steps.held);
     }
 
 pub goes_on : {O W C : Type 0} (g : Ghosts O W C) (old now new : StoreState O) (text left later : Option (List ℕ)) (count : ℕ) (e : Event) (answer : List ℕ)
     → Progress g old now text left count → TakesNextEvent left (Some e) later → Fits e → new.kept.form ≡ now.kept.form → FreeAt g old now e → Stepped g now new e answer
     → (g.told.heard → TellsLine (g.view now.outside).heard (g.view new.outside).heard (g.view now.outside).moment (g.view new.outside).moment answer)
-    → Progress g old new text later (count + 1)
-goes_on g old now new text left later count e answer p takes fits form free stepped said =
+    → EventSurvives g now new e (Ok answer) → Progress g old new text later (count + 1)
+goes_on g old now new text left later count e answer p takes fits form free stepped said survives =
     let t : Turn = (e, stepped.outcomes) in
     record {
       turns = p.turns ++ t ∷ [];
@@ -234,7 +243,7 @@ goes_on g old now new text left later count e answer p takes fits form free step
       read = λ whole told.
           let r = p.read whole told in
           subst (λ (es : List Event). ReadSoFar whole later es) (sym (events-last p.turns t)) (one_more_read whole left later (events_of p.turns) r e (takes r.begun.rest r.left_is));
-      applied = one_more_applied g old now new p.turns e answer p.applied fits form free stepped said;
+      applied = one_more_applied g old now new p.turns e answer p.applied fits form free stepped said survives;
     }
 
 none_after : (held rest : List ℕ) → [] ≡ held ++ rest → rest ≡ []
@@ -423,8 +432,9 @@ pub replays : {O W C : Type 0} (g : Ghosts O W C) (before : O) (schema : List �
     → (g.view now).heard ≡ (g.view new.outside).heard → (g.view new.outside).moment ≤ (g.view now).moment → (g.view now).refusals ≡ (g.view new.outside).refusals
     → (g.told.locks → (g.view before).locks meta_lock_name ≡ true → (g.view mid.outside).locks meta_lock_name ≡ true)
     → NotesMade g.told (g.view before) (g.view now)
+    → ((turns : List Turn) → Applies g mid new turns → ReplayLeaves g before now schema turns)
     → Runs g mid new text left tally → Replays g before now schema text tally
-replays g before schema mid new now text left tally opened said refusals holds heard later refusals_now locked notes r =
+replays g before schema mid new now text left tally opened said refusals holds heard later refusals_now locked notes survives r =
     let old_reads = (g.view before).reads in
     let whole : g.told.content → (index : OpenedIndex schema old_reads) → IsWhole index.state = λ t index. reads_whole index (opened.holds t index).2 in
     let stands : g.told.content → (index : OpenedIndex schema old_reads) → DirectoryHolds index.form.settings index.form.schema (g.view now).reads (after index.state r.turns) =
@@ -468,6 +478,7 @@ replays g before schema mid new now text left tally opened said refusals holds h
           subst (λ (x : List ℕ). IsSoundImage x (g.view now).reads) (sym same)
           (holds_sound index.form.settings index.form.schema (g.view now).reads (after index.state r.turns) (stands t index) (sound_after index.state r.turns r.applied.fits start));
       notes = notes;
+      survives = survives r.turns r.applied;
     }
 
 -- what follows from two things that are true of what is answered

@@ -165,7 +165,7 @@ module _ (schema form : List ℕ) (reads : Reads) (spelled : IsSchema schema for
 
 -- ---- the run
 
-lines_fit : (texts : List (List ℕ)) (events : List Event) → AreLines texts events → AllByRecursion Fits events
+pub lines_fit : (texts : List (List ℕ)) (events : List Event) → AreLines texts events → AllByRecursion Fits events
 lines_fit [] [] h = tt
 lines_fit (text ∷ texts) (event ∷ events) h = (h.0.fits, lines_fit texts events h.1)
 lines_fit [] (event ∷ events) h = absurd h

@@ -4,7 +4,9 @@ pub mod Feeds
 pub mod LineLemmas
 pub mod Progress
 pub mod Benches
+pub mod AppliedWhole
 pub mod AppliedEvents
+pub mod Surviving
 pub mod Stopping
 pub mod Complete
 pub mod Runs
@@ -18,4 +20,5 @@ pub mod CommandWords
 pub mod CommandRuns
 pub mod LineLaws
 pub mod Deriving
+pub mod LastCollections
 pub mod KeptLocks

@@ -24,7 +24,7 @@ pub no_event : (text : List ℕ) (found : Option Event) → ((e : Event) → IsL
 no_event text None never h = refl
 no_event text (Some e) never h = absurd (never e h)
 
-differ : (a b : List ℕ) → is a b ≡ false → a ≡ b → ⊥
+pub differ : (a b : List ℕ) → is a b ≡ false → a ≡ b → ⊥
 differ a b apart e = true≢false (sym ((bytes_decides a b).1 e) ∙ apart)
 
 -- ---- no leading zero

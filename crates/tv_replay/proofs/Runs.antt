@@ -246,6 +246,7 @@ reports_since {told = told} old {mid = mid} {new = new} {line = line} texts same
   texts = texts_then (record { schemas = texts.schemas; scripts = texts.scripts }) r.texts;
   faults = r.faults;
   frame = r.frame;
+  images = r.images;
   reported = elim r.reported [
     | inl (heard, nothing) ↦ inl (heard, record { said = nothing.said ∙ silent; quiet = nothing.quiet ∙ same })
     | inr (part, says) ↦

@@ -19,11 +19,12 @@ use Rattle.tv_formats.proofs.OneMeaning.{one_meaning}
 use Rattle.tv_formats.proofs.PlainNames.{plain_is_file_name, plain_is_undotted}
 use Rattle.tv_replay.specs.Summaries.{has_file, IsStanding}
 
-there : (file : Option FileState) (read : Option (List ℕ)) → FileReads file read → is_some read ≡ is_some file
-there None read h = ap is_some h
-there (Some (SealedFile bytes)) read h = ap is_some h
-there (Some (Open body)) read h = h
-there (Some Left) read h = h
+-- a name reads as its file stands
+pub reads_where_there : (file : Option FileState) (read : Option (List ℕ)) → FileReads file read → is_some read ≡ is_some file
+reads_where_there None read h = ap is_some h
+reads_where_there (Some (SealedFile bytes)) read h = ap is_some h
+reads_where_there (Some (Open body)) read h = h
+reads_where_there (Some Left) read h = h
 
 -- a plain name reads where it is that of a file of the index
 reads_file : (settings : Settings) (schema : List ℕ) (reads : Reads) (s : State) (name : List ℕ) → DirectoryHolds settings schema reads s → is_plain name ≡ true → is_some (reads name) ≡ has_file s name
@@ -32,7 +33,7 @@ reads_file settings schema reads s name holds plain =
       | true ↦ λ same. ap (λ (n : List ℕ). is_some (reads n)) (is_text name meta_name same) ∙ ap is_some holds.meta.1
       | false ↦ λ other.
           let apart : name ≢ meta_name = λ same. isnt_text name meta_name other (sym same) in
-          there (file_at s name) (reads name) (holds.files name (plain_is_undotted name plain, apart))
+          reads_where_there (file_at s name) (reads name) (holds.files name (plain_is_undotted name plain, apart))
     ] refl
 
 same_filter : (p q : List ℕ → Bool) (names : List (List ℕ)) → ((name : List ℕ) → is_plain name ≡ true → p name ≡ q name) → list_all is_plain names ≡ true → filter p names ≡ filter q names

@@ -12,13 +12,16 @@ use Rattle.tv_machine.specs.SoundStates.{IsWhole}
 use Rattle.tv_machine.specs.Machine.{Turn, answers, after, events_of, all_refused}
 use Rattle.tv_machine.specs.Readable.{AllReadGood}
 use Rattle.tv_machine.specs.Script.{lines_of, Fits, AreLines}
+use Rattle.tv_crashes.specs.Runs.{RunsWhole}
 use Rattle.tv_device.specs.Locks.{LockCause}
 use Rattle.tv_device.specs.declared.directory.Directory.{Ghosts}
 use Rattle.tv_managed.specs.Collecting.{meta_lock_name}
 use Rattle.tv_store.specs.Applying.{HoldsNone}
+use Rattle.tv_store.specs.Durable.{IsDurable, store_files}
 use Rattle.tv_store.specs.Kept.{StoreState, IsHeld}
 use Rattle.tv_store.specs.StoreCauses.{WriteFault, IsBusy, IsRefusal}
 use Rattle.tv_store.specs.ReadCauses.{ReadFault}
+use Rattle.tv_store.specs.Surviving.{seen_of}
 use Rattle.tv_store.specs.Telling.{TellsLines}
 use Rattle.tv_replay.specs.declared.lines.LineError.TheVariants as line
 use Rattle.tv_replay.specs.declared.next_event.ScriptError.{ScriptError}
@@ -26,9 +29,16 @@ use Rattle.tv_replay.specs.declared.next_event.ScriptError.TheVariants as failed
 use Rattle.tv_replay.specs.declared.replaying.Tally.{Tally}
 use Rattle.tv_replay.specs.Replays.{TakesNoLock, LineRefusal, IsTooMany, StopsAt, IsQuietAt, IsRefusedAt, line_refusal, long_refusal}
 
+-- These events were applied, and a crash at no moment took a commit away: from each whole state that was
+-- held, this is a run of them all of whose lines were told, and a crash can't hurt the files afterwards.
+pub record AppliesWhole {O W C : Type 0} (g : Ghosts O W C) (old new : StoreState O) (s : State)
+    (turns : List Turn) : Type 0 where
+  pub runs : RunsWhole old.kept.form (seen_of g old.outside) (seen_of g new.outside) s turns
+  pub durable : IsDurable g (store_files new) (after s turns)
+
 -- These events were applied: from each state that was held before, the state after them is held now, and
 -- their answers were told; those that read a commit's files could do so; and no more deletes were refused
--- than their count rose.
+-- than their count rose. What a crash leaves meanwhile is said where it couldn't hurt the files before.
 pub record Applies {O W C : Type 0} (g : Ghosts O W C) (old new : StoreState O)
     (turns : List Turn) : Type 0 where
   pub fits : AllByRecursion Fits (events_of turns)
@@ -41,6 +51,8 @@ pub record Applies {O W C : Type 0} (g : Ghosts O W C) (old new : StoreState O)
   pub unlocked : g.told.content → g.told.locks → (g.view old.outside).locks meta_lock_name ≡ true
       → (s : State) → IsHeld g old s → IsWhole s → TakesNoLock s turns
   pub refused : RoseBy (all_refused turns) (g.view old.outside).refusals (g.view new.outside).refusals
+  pub survives : g.tells_images → g.told.heard → (s : State) → IsHeld g old s → IsWhole s
+      → IsDurable g (store_files old) s → AppliesWhole g old new s turns
 
 -- the events of a whole script were applied, and nothing is left of it
 pub record Runs {O W C : Type 0} (g : Ghosts O W C) (old new : StoreState O) (text left : Option (List ℕ))

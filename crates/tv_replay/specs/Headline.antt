@@ -1,10 +1,12 @@
--- What a replay that answers Ok gives from a sound start: the lines of a run of the machine, and the files
--- and the list of that run.
-use Rattle.std.specs.Prelude.{ℕ, ◌≡◌, List, [], length, Some}
+-- What a replay that answers Ok gives from a sound start: the lines of a run of the machine, the files and
+-- the list of that run, and what a crash leaves at each of its moments.
+use Rattle.std.specs.Prelude.{ℕ, ◌≡◌, ◌⊎◌, ◌++◌, List, [], ◌∷◌, length, Some}
+use Rattle.tv_crashes.specs.Runs.{ReplaySurvives}
+use Rattle.tv_device.specs.Images.{KeepsDisk}
 use Rattle.tv_device.specs.declared.directory.Directory.{Ghosts}
-use Rattle.tv_formats.specs.Files.{RoseBy}
+use Rattle.tv_formats.specs.Files.{Heard, RoseBy}
 use Rattle.tv_machine.specs.Index.{FileReads, IsFileOf, OpenedIndex}
-use Rattle.tv_formats.specs.Sound.{IsSoundStart}
+use Rattle.tv_formats.specs.Sound.{IsSoundDirectory, IsSoundStart}
 use Rattle.tv_formats.specs.Listing.{Listing}
 use Rattle.tv_machine.specs.Machine.{Turn, after, report, events_of, all_refused}
 use Rattle.tv_formats.specs.Meaning.{Means}
@@ -13,11 +15,13 @@ use Rattle.tv_formats.specs.Schemas.{stripped}
 use Rattle.tv_machine.specs.Script.{lines_of, AreLines}
 use Rattle.tv_machine.specs.State.{file_at}
 use Rattle.tv_store.specs.Stays.{KeepsDotted}
+use Rattle.tv_store.specs.Surviving.{seen_of}
 use Rattle.tv_store.specs.Telling.{TellsLines}
 use Rattle.tv_replay.specs.declared.replaying.Tally.{Tally}
 use Rattle.tv_replay.specs.Commands.{replay_words}
 use Rattle.tv_replay.specs.PlaceView.{PlaceTold}
 use Rattle.tv_replay.specs.Runs.{Scene}
+use Rattle.tv_replay.specs.Surviving.{SurvivesCrashes}
 
 -- A run of the machine on the whole script was told, line by line, and its files and its list were left.
 pub record Headline {O W C : Type 0} (g : Ghosts O W C) (before now : O) (schema script : List ℕ)
@@ -49,6 +53,12 @@ pub record Headline {O W C : Type 0} (g : Ghosts O W C) (before now : O) (schema
   pub dotted : KeepsDotted (g.view before).reads (g.view now).reads
   -- what is left is a sound start again
   pub sound : IsSoundStart (stripped schema) (g.view now).reads (g.view now).locks
+  -- where the directory tells what a crash may leave, and each of these images was sound: before the opening
+  -- line a crash leaves the commit of the start, or that of a new index; from then on it leaves whole the
+  -- commit of the events whose lines are told, or that of the event in progress
+  pub survives : g.tells_images
+      → IsSoundDirectory (stripped schema) (g.disk before) (g.view before).locks
+      → ReplaySurvives index.form (seen_of g before) (seen_of g now) index.state turns
 
 -- A run for `replay FOLDER SCHEMA` that starts soundly: what the place and the directory in this folder have
 -- is told, and that directory is a sound start under the schema.
@@ -87,3 +97,34 @@ pub record RunsSoundly {O W C : Type 0} {g : Ghosts O W C} {told : PlaceTold} {w
   pub read_out : new.script.left ≡ Some []
   -- nothing was said
   pub silent : new.place.said ≡ old.place.said
+
+-- at most one piece was told: a line, or a part of one
+abbrev pub HearsAtMostOne : Heard → Heard → Type 0
+HearsAtMostOne before now =
+    (now ≡ before) ⊎ ((moment : ℕ) × (piece : List ℕ) × (now ≡ before ++ (moment, piece) ∷ []))
+
+-- What a run that starts soundly leaves, whatever status it ends with, in a directory each of whose images
+-- was sound.
+pub record EndsSoundly {O W C : Type 0} {g : Ghosts O W C} {told : PlaceTold} {words : List (List ℕ)}
+    {old : Scene O} (start : StartsSoundly g told words old) (new : Scene O) : Type 0 where
+  -- the folder holds a directory again
+  pub now : O
+  pub given_back : new.place.kept start.folder ≡ Some now
+  -- up to this one, with which the replay ended, a crash left the commit of the start, that of a new index, or
+  -- that of the events told so far, or of the one in progress
+  pub stopped : O
+  pub survives : SurvivesCrashes g start.before stopped start.schema old.script.left
+  -- from there on it leaves what it might leave then, and no more was told than one line, or a part of it
+  pub since : KeepsDisk (g.disk stopped) (g.disk now)
+  pub heard : HearsAtMostOne (g.view stopped).heard (g.view now).heard
+  -- and whatever it leaves at the end is sound
+  pub sound : IsSoundDirectory (stripped start.schema) (g.disk now) (g.view now).locks
+
+-- A run that starts soundly, in a directory that tells what a crash may leave and of which each such image was
+-- sound, leaves to a crash what `EndsSoundly` says.
+abbrev pub RunSurvives : {O W C : Type 0} → Ghosts O W C → PlaceTold → (words : List (List ℕ))
+    → (old new : Scene O) → Type 0
+RunSurvives g told words old new =
+    (start : StartsSoundly g told words old) → g.tells_images
+    → IsSoundDirectory (stripped start.schema) (g.disk start.before) (g.view start.before).locks
+    → EndsSoundly start new

@@ -3,6 +3,7 @@ pub mod EventWords
 pub mod ScriptLines
 pub mod ScriptCauses
 pub mod Replays
+pub mod Surviving
 pub mod AppliedEvents
 pub mod Completeness
 pub mod PlaceView
@@ -12,5 +13,6 @@ pub mod Summaries
 pub mod Commands
 pub mod Runs
 pub mod Headline
+pub mod LastCollections
 pub mod BenchPlace
 pub mod FolderPlace

@@ -6,7 +6,7 @@ use Rattle.tv_machine.specs.declared.event.Event.TheVariants as events
 use Rattle.tv_formats.specs.Names.{meta_name}
 use Rattle.tv_formats.specs.Files.{Reads, Same, Heard, Rose, RoseBy}
 use Rattle.tv_formats.specs.Commits.{IndexForm}
-use Rattle.tv_formats.specs.Schemas.{IsSchema, IsNoSchema}
+use Rattle.tv_formats.specs.Schemas.{IsSchema, IsNoSchema, stripped}
 use Rattle.tv_formats.specs.Meaning.{Means}
 use Rattle.tv_machine.specs.State.{State}
 use Rattle.tv_machine.specs.Machine.{Turn, step, after, report, events_of, all_refused}
@@ -16,7 +16,8 @@ use Rattle.tv_machine.specs.Collecting.{CollectsIn, CollectsInStepsIn}
 use Rattle.tv_machine.specs.Validating.{Validates}
 use Rattle.tv_machine.specs.Script.{lines_of, AreLines}
 use Rattle.tv_machine.specs.Index.{DirectoryHolds, FoundIndex, OpenedIndex, found_commits}
-use Rattle.tv_formats.specs.Sound.{HasFiles, IsSoundImage}
+use Rattle.tv_formats.specs.Sound.{HasFiles, IsSoundDirectory, IsSoundImage}
+use Rattle.tv_crashes.specs.Runs.{ReplaySurvives}
 use Rattle.tv_base.specs.Causes.{IsDevice}
 use Rattle.tv_base.specs.Streams.{SourceView}
 use Rattle.tv_device.specs.Locks.{Locks, SameLocks}
@@ -37,6 +38,7 @@ use Rattle.tv_store.specs.OpeningCauses.{CallFacts, IsSomeSchema, OpeningCause, 
 use Rattle.tv_store.specs.Making.{IsRefusedFirst, LeavesRefused}
 use Rattle.tv_store.specs.Applying.{MeetsBadAt}
 use Rattle.tv_store.specs.Stays.{KeepsDotted}
+use Rattle.tv_store.specs.Surviving.{seen_of}
 use Rattle.tv_store.specs.Telling.{TellsLines, TellsNoLine}
 
 -- no event of a run takes the meta lock
@@ -59,7 +61,8 @@ ValidatesIn s turns =
 -- readers and searchers serve as `Serves` says, and from a sound start they show the body of each file; its
 -- collections take what nothing needs, as `CollectsIn` says, and from a sound start those in steps as
 -- `CollectsInStepsIn` says; its validations name the damaged files. Where an index was made a notice of it
--- stands.
+-- stands. From a sound directory that tells its images a crash leaves at each moment what `ReplaySurvives`
+-- says of this run.
 pub record Replays {O W C : Type 0} (g : Ghosts O W C) (before now : O) (schema : List ℕ)
     (script : Option (List ℕ)) (tally : Tally) : Type 0 where
   pub turns : List Turn
@@ -94,6 +97,10 @@ pub record Replays {O W C : Type 0} (g : Ghosts O W C) (before now : O) (schema 
   pub sound : g.told.content → (text : List ℕ) → IsSchema schema text
       → IsSoundImage text (g.view before).reads → IsSoundImage text (g.view now).reads
   pub notes : NotesMade g.told (g.view before) (g.view now)
+  pub survives : g.tells_images → g.told.heard → g.told.locks
+      → IsSoundDirectory (stripped schema) (g.disk before) (g.view before).locks
+      → (index : OpenedIndex schema (g.view before).reads)
+      → ReplaySurvives index.form (seen_of g before) (seen_of g now) index.state turns
 
 -- what was told of a script was read to its end
 abbrev pub IsReadOut : SourceView → SourceView → Type 0

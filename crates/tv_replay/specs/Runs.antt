@@ -4,6 +4,7 @@ use Rattle.tv_base.specs.Streams.{SourceView}
 use Rattle.tv_base.specs.declared.error.TantivyError.{TantivyError}
 use Rattle.tv_base.specs.declared.error.TantivyError.TheVariants as errors
 use Rattle.tv_formats.specs.Files.{Rose}
+use Rattle.tv_device.specs.Images.{KeepsDisk}
 use Rattle.tv_device.specs.Telling.{TellsPart}
 use Rattle.tv_device.specs.View.{View, Told, OnlyTells}
 use Rattle.tv_device.specs.declared.directory.Directory.{Ghosts}
@@ -15,6 +16,7 @@ use Rattle.tv_replay.specs.PlaceView.{PlaceTold, PlaceView, KeepsFolders, KeepsT
 use Rattle.tv_replay.specs.Commands.{generate_words, most_commits, replay_words}
 use Rattle.tv_replay.specs.Summaries.{IsSummaryOf}
 use Rattle.tv_replay.specs.Replays.{Replays, ReplayFrame, IsReadOut, IsQuietAt, FailsReplay, StopsReplay, replay_call}
+use Rattle.tv_replay.specs.Surviving.{SurvivesReplay}
 
 -- what is said where the words are others
 abbrev pub usage_line : List ℕ
@@ -168,12 +170,13 @@ module _ {O W C : Type 0} (g : Ghosts O W C) (told : PlaceTold) where
     pub read_out : IsReadOut asked.old.script asked.new.script
     pub quiet : IsQuietAt (g.view before) (g.view now) asked.old.script asked.new.script
     pub frame : ReplayFrame g.told (g.view before) (g.view now)
+    pub survives : SurvivesReplay g before now schema asked.old.script.left
     pub texts : KeepsTexts told asked.old.place asked.new.place
     pub silent : SaysNothing asked.old.place asked.new.place
 
-  -- The directory that was lent was given back: it reads what it read when the replay stopped, the same locks
-  -- are held, and nobody was registered or called. A line was told to it, and nothing was said; or no more
-  -- than a part of the line was told, and the line was said.
+  -- The directory that was lent was given back: it reads what it read when the replay stopped, a crash leaves
+  -- what it might leave then, the same locks are held, and nobody was registered or called. A line was told
+  -- to it, and nothing was said; or no more than a part of the line was told, and the line was said.
   pub record Reports (loan : Loan O) (line : List ℕ) : Type 0 where
     pub now : O
     pub given_back : told.content → (folder : List ℕ) → loan.old.lent ≡ Some folder
@@ -182,6 +185,7 @@ module _ {O W C : Type 0} (g : Ghosts O W C) (told : PlaceTold) where
     pub faults : ((g.view now).faults ≡ (g.view loan.stopped).faults)
         ⊎ Rose (g.view loan.stopped).faults (g.view now).faults
     pub frame : OnlyTells g.told (g.view loan.stopped) (g.view now)
+    pub images : g.tells_images → KeepsDisk (g.disk loan.stopped) (g.disk now)
     pub reported :
         ((g.told.heard → TellsLine (g.view loan.stopped).heard (g.view now).heard
         (g.view loan.stopped).moment (g.view now).moment line) × SaysNothing loan.old loan.new)
@@ -203,6 +207,8 @@ module _ {O W C : Type 0} (g : Ghosts O W C) (told : PlaceTold) where
     pub stops : StopsReplay g.told
         (replay_call g before stopped schema asked.old.script asked.new.script) error
     pub frame : ReplayFrame g.told (g.view before) (g.view stopped)
+    -- what a crash leaves up to there
+    pub survives : SurvivesReplay g before stopped schema asked.old.script.left
     -- seen from the place as it was while the folder's directory was lent
     pub reports : Reports (record {
       stopped = stopped;

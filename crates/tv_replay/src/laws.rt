@@ -9,8 +9,10 @@ ghost use Rattle.tv_formats.specs.Schemas.{stripped};
 ghost use Rattle.tv_machine.specs.Script.{Fits, line_limit, lines_of};
 ghost use Rattle.tv_replay.specs.Commands.{replay_words, IsNoCommand};
 ghost use Rattle.tv_replay.specs.Completeness.{IsUndisturbed};
-ghost use Rattle.tv_replay.specs.Headline.{Headline, RunsSoundly, StartsSoundly};
+ghost use Rattle.tv_replay.specs.Headline.{Headline, RunSurvives, RunsSoundly, StartsSoundly};
+ghost use Rattle.tv_replay.specs.LastCollections.{EndsCollecting, LeavesNeeded, RefusesNoDelete};
 ghost use Rattle.tv_replay.specs.Runs.{IsUndisturbedRun};
+ghost use Rattle.tv_replay.specs.Surviving.{SurvivesReplay};
 
 use crate::place::Place;
 use crate::program::run;
@@ -30,6 +32,13 @@ use tv_machine::Event;
 /// `meta.json`, where there is one, means a commit of this schema whose files can be read; an empty
 /// directory is one. What is left is a sound start again. That the schema is valid isn't presumed: at
 /// Ok it is.
+///
+/// Where the directory also tells what a crash may leave, and each such image of the start is sound,
+/// more holds of every moment of the replay, whatever it answers. A crash before the opening line
+/// leaves the commit of the start, or that of a new index; a crash later leaves whole the commit of
+/// the events whose lines are told, or that of the event in progress, and each undotted file listed.
+/// Each image that a crash may leave at the end is sound again. At Ok this is said of the run that was
+/// told.
 pub fn tells_a_run_of_the_machine<O: Outside, R: Source>(
     alloc: Global,
     outside: O,
@@ -40,12 +49,18 @@ pub fn tells_a_run_of_the_machine<O: Outside, R: Source>(
         → IsSoundStart (stripped schema.now) (O.view outside).reads (O.view outside).locks
         → (text : List ℕ) → (R.view script.old).left ≡ Some text
         → IfOk result.outcome (Headline O.Directory outside result.outside schema.now text) }
+    ensures crashes { SurvivesReplay O.Directory outside result.outside schema.now
+        (R.view script.old).left }
 {
     replay(alloc, outside, schema, script)
 }
 
 /// A run for `replay FOLDER SCHEMA` that starts soundly and ends with 0 has done the same in its folder:
 /// the headline holds of the directory that the folder held and the one that it holds now.
+///
+/// Whatever status it ends with, where the directory also tells what a crash may leave, and each such
+/// image of the start is sound: up to where the replay stopped a crash leaves what it leaves of a
+/// replay; from there on it leaves what it might leave then, and each such image is sound.
 pub fn runs_the_machine_over_a_folder<P: Place, R: Source>(
     alloc: Global,
     words: &[String],
@@ -58,8 +73,32 @@ pub fn runs_the_machine_over_a_folder<P: Place, R: Source>(
     ensures headline { (start : StartsSoundly P.Out.Directory P.told (map string_bytes words.now)
         (record { place = P.view place.old; script = R.view script.old })) → result ≡ 0
         → RunsSoundly start (record { place = P.view place.new; script = R.view script.new }) }
+    ensures crashes { RunSurvives P.Out.Directory P.told (map string_bytes words.now)
+        (record { place = P.view place.old; script = R.view script.old })
+        (record { place = P.view place.new; script = R.view script.new }) }
 {
     run(alloc, words, place, script)
+}
+
+/// A replay that answers Ok, of a script whose last line is `gc`, leaves what is needed and nothing else,
+/// where that is its only line or stands right behind a line `reopen`, and no delete was refused: of the
+/// files without a dot in front, `meta.json` apart, that stood there before that line exactly those are
+/// left that belong to a segment of the current commit or to a live one.
+///
+/// It presumes a directory that tells its content, a script that is told, and a sound start.
+pub fn a_collection_leaves_what_is_needed<O: Outside, R: Source>(
+    alloc: Global,
+    outside: O,
+    schema: &[u8],
+    script: &mut R,
+) -> Replayed<O>
+    ensures needed { O.told.content
+        → IsSoundStart (stripped schema.now) (O.view outside).reads (O.view outside).locks
+        → (text : List ℕ) → (R.view script.old).left ≡ Some text → EndsCollecting text
+        → RefusesNoDelete (O.view outside) (O.view result.outside)
+        → OnOk result.outcome (LeavesNeeded O.Directory outside result.outside schema.now text) }
+{
+    replay(alloc, outside, schema, script)
 }
 
 /// A line spells its event in one way: a number has no leading zero, one space alone stands between

@@ -1,5 +1,6 @@
 //! The top call of the program.
 ghost use Rattle.std.specs.Prelude.{◌≡◌, ◌⊎◌, ◌↔◌, List, ℕ, None, IsSome, true, map, string_bytes};
+ghost use Rattle.tv_device.specs.Images.{KeepsDisk};
 ghost use Rattle.tv_formats.specs.Files.{has_no_feed};
 ghost use Rattle.tv_replay.specs.ErrorLines.{error_line};
 ghost use Rattle.tv_replay.specs.Commands.{replay_words, IsNoCommand};
@@ -198,7 +199,8 @@ fn report<P: Place>(place: &mut P, outside: P::Out, line: &[u8])
 // Tells a line, where there is room for it and it isn't refused.
 fn tell_line<O: Outside>(outside: &mut O, line: &[u8]) -> bool
     requires { has_no_feed line.now ≡ true }
-    ensures { TellsOrPart O.told (O.view outside.old) (O.view outside.new) line.now result }
+    ensures tells { TellsOrPart O.told (O.view outside.old) (O.view outside.new) line.now result }
+    ensures images { O.tells_images → KeepsDisk (O.disk outside.old) (O.disk outside.new) }
 {
     match outside.ready(line.len()) {
         Ok(()) => outside.tell(line).is_ok(),

@@ -10,6 +10,7 @@ ghost use Rattle.tv_replay.specs.Replays.{Replays, ReplayFaults, ReplayFrame, St
 ghost use Rattle.tv_replay.specs.Replays.{line_refusal, long_refusal, replay_call};
 ghost use Rattle.tv_replay.specs.ScriptLines.{pending, TakesNextEvent, ReadsAhead};
 ghost use Rattle.tv_replay.specs.ScriptCauses.{EndReads};
+ghost use Rattle.tv_replay.specs.Surviving.{RunsInPart, SurvivesReplay};
 
 use crate::lines::LineError;
 use crate::next_event::{ScriptError, next_event};
@@ -68,6 +69,9 @@ pub fn replay<O: Outside, R: Source>(
         (R.view script.old) (R.view script.new))
         result.outcome }
     ensures frame { ReplayFrame O.told (O.view outside) (O.view result.outside) }
+    // Of a sound directory: what a crash leaves at each moment, whatever it answers.
+    ensures survives { SurvivesReplay O.Directory outside result.outside schema.now
+        (R.view script.old).left }
 {
     let mut store = match IndexStore::open(alloc, outside, schema) {
         Ok(store) => store,
@@ -101,6 +105,7 @@ fn apply_all<O: Outside, R: Source>(
     ensures faults { RunFaults O.Directory store.old store.new (R.view script.old)
         (R.view script.new) result }
     ensures frame { ReplayFrame O.told (O.view store.old.outside) (O.view store.new.outside) }
+    ensures survives { RunsInPart O.Directory store.old store.new (R.view script.old).left }
 {
     let mut buffer = ScriptBuffer::new(alloc)?;
     for events in 0..u32::MAX {

@@ -111,7 +111,7 @@ publish_keeps c number (Some reader) (Some shown) = refl
 publish_keeps c number (Some reader) None = refl
 publish_keeps c number None loaded = refl
 
-commit_stays : (s : State) (change : Change) (reply : Reply) → (changed s change reply).catalog.commit ≡ s.catalog.commit
+pub commit_stays : (s : State) (change : Change) (reply : Reply) → (changed s change reply).catalog.commit ≡ s.catalog.commit
 commit_stays s changes.Nothing reply = refl
 commit_stays s (changes.Deletes id segment n) reply = refl
 commit_stays s (changes.Release id) reply = refl
@@ -161,6 +161,20 @@ tried_plain c change (Some k) deletes = first_plain c change k.untried deletes
 end_keeps : (s : State) (number : ℕ) (c : Option Collection) → (after_end s number c).catalog ≡ s.catalog
 end_keeps s number None = refl
 end_keeps s number (Some c) = refl
+
+-- no action changes which segments are live
+pub live_stays : (s : State) (action : Action) (reply : Reply) → (after s action reply).catalog.live ≡ s.catalog.live
+live_stays s (actions.Make name) replies.Done = refl
+live_stays s (actions.Append name bytes) replies.Done = ap (λ (c : Catalog). c.live) (body_keeps s (written_to (file_at s name)) (wrote s name bytes.now) (λ body. refl))
+live_stays s (actions.Seal name) replies.Done = ap (λ (c : Catalog). c.live) (body_keeps s (written_to (file_at s name)) (sealed_as s name) (λ body. refl))
+live_stays s (actions.Leave names) replies.Done = refl
+live_stays s (actions.Save commit text required) (replies.Saved saved) = refl
+live_stays s (actions.Collect living) (replies.Collected names) = refl
+live_stays s (actions.Begin living) replies.Done = refl
+live_stays s (actions.Try number) (replies.Tried tried) = ap (λ (c : Catalog). c.live) (tried_keeps s number (collection_at s.collections number) tried.is_done)
+live_stays s (actions.End number) replies.Done = ap (λ (c : Catalog). c.live) (end_keeps s number (collection_at s.collections number))
+live_stays s actions.Reopen replies.Done = refl
+live_stays s other reply = refl
 
 -- what is known is what is known of the state after
 settled_as : (s : State) (action : Action) (change : Change) (reply : Reply) (c : Catalog) → c ≡ s.catalog → (after s action reply).catalog ≡ s.catalog → settled c change reply ≡ catalog_after c change (loaded_by reply) → settled c change reply ≡ catalog_after (after s action reply).catalog change (loaded_by reply)
@@ -294,7 +308,7 @@ module _ {O W C : Type 0} (g : Ghosts O W C) (catalog : Catalog) (standing : Sta
     below : OnlyReads g.told (g.view first.outside) (g.view next.outside)
     below = asked.managed.below
 
-    in_memory : (s : State) → Holds (g.view first.outside).reads (kept_of catalog first) s → InMemory (kept_of catalog first) s
+    pub in_memory : (s : State) → Holds (g.view first.outside).reads (kept_of catalog first) s → InMemory (kept_of catalog first) s
     in_memory s h = record {
       catalog = h.catalog;
       managed = h.managed;
@@ -304,7 +318,7 @@ module _ {O W C : Type 0} (g : Ghosts O W C) (catalog : Catalog) (standing : Sta
       written = λ n fits. sym (written_is (file_at s n) ((g.view first.outside).reads n) (at first.open_files n) (h.files n fits));
     }
 
-    files_hold : g.told.content → (s : State) → Holds (g.view first.outside).reads (kept_of catalog first) s → FilesHold g next s
+    pub files_hold : g.told.content → (s : State) → Holds (g.view first.outside).reads (kept_of catalog first) s → FilesHold g next s
     files_hold tells s h =
         let whose : kept_of s.catalog next ≡ kept_of catalog first = ap (λ c. kept_of c next) (sym h.catalog) ∙ kept in
         same_holds (g.view first.outside).reads (g.view next.outside).reads (kept_of catalog first) (kept_of s.catalog next) s (below.content tells) whose h
@@ -338,11 +352,22 @@ module _ {O W C : Type 0} (g : Ghosts O W C) (catalog : Catalog) (standing : Sta
       passed p = passes_by planned.action (g.view next.outside) (g.view last.outside) below p.frame plans.notes
 
       -- the step of the event, by what came of its action
-      stepped : (s : State) → Holds (g.view first.outside).reads (kept_of catalog first) s → (deletes : List Bool) (reply : Reply) → reply ≡ reply_in s planned.action deletes
+      pub stepped : (s : State) → Holds (g.view first.outside).reads (kept_of catalog first) s → (deletes : List Bool) (reply : Reply) → reply ≡ reply_in s planned.action deletes
           → step s event deletes ≡ (line_of planned.line.items reply, changed (after s planned.action reply) planned.change reply)
       stepped s held deletes reply is =
           plans.steps s (in_memory s held) deletes
           ∙ ap (λ (r : Reply). (line_of planned.line.items r, changed (after s planned.action r) planned.change r)) (sym is)
+
+      -- what is known after it
+      known_after : (s : State) (reply : Reply) → Holds (g.view first.outside).reads (kept_of catalog first) s → MayGive next.collections next.managed planned.action reply
+          → settled catalog planned.change reply ≡ catalog_after (after s planned.action reply).catalog planned.change (loaded_by reply)
+      known_after s reply held gives = settled_is s planned.action planned.change reply catalog next.collections next.managed held.catalog (beside_of event planned.action planned.change plans.beside) gives
+
+      -- and the state that is held
+      pub held_after : (s : State) (deletes : List Bool) (reply : Reply) → Holds (g.view first.outside).reads (kept_of catalog first) s → MayGive next.collections next.managed planned.action reply → Performed g planned.action next last (s, deletes) reply
+          → Holds (g.view last.outside).reads (kept_of (settled catalog planned.change reply) last) (changed (after s planned.action reply) planned.change reply)
+      held_after s deletes reply held gives did =
+          changed_holds (g.view last.outside).reads last (after s planned.action reply) planned.change reply (settled catalog planned.change reply) (known_after s reply held gives) (plans.segments s (in_memory s held) reply) did.held
 
       -- why its action failed
       why_failed : (action : Action) (error : TantivyError) → LoadsFor (kept_of catalog first) event action → (LocksMeta action → TakesMetaLock catalog event) → (SpentBy next.collections action → IsExhausted Old.kept event)
@@ -431,14 +456,11 @@ module _ {O W C : Type 0} (g : Ghosts O W C) (catalog : Catalog) (standing : Sta
         made tells s held whole did =
             let right = stepped s held p.performed.0 reply did.reply_is in
             let now = after s planned.action reply in
-            let known : settled catalog planned.change reply ≡ catalog_after now.catalog planned.change (loaded_by reply) =
-            settled_is s planned.action planned.change reply catalog next.collections next.managed held.catalog (beside_of event planned.action planned.change plans.beside) p.gives in
+            let known = known_after s reply held p.gives in
             let state : changed now planned.change reply ≡ (step s event p.performed.0).1 = sym (ap (λ (t : StepResult State). t.1) right) in
             record {
               told = is ∙ sym (ap (λ (t : StepResult State). t.0) right);
-              held = subst (λ (t : State). Holds (g.view last.outside).reads new.kept t) state
-                  (changed_holds (g.view last.outside).reads last now planned.change reply (settled catalog planned.change reply)
-                  known (plans.segments s (in_memory s held) reply) did.held);
+              held = subst (λ (t : State). Holds (g.view last.outside).reads new.kept t) state (held_after s p.performed.0 reply held p.gives did);
               readable = reads_good planned.action s reply plans.loads held whole p.faults.cause tells;
               unchanged = λ by_step stays.
                   let alone : LeavesAlone (g.view next.outside) (g.view last.outside) =

@@ -49,11 +49,15 @@ first_is_commit : IsCommit first_commit
 unfolding IsStrictlySortedBy
 first_is_commit = record { ordered = tt; segments = tt; opstamp = omega arith; payload = tt }
 
+-- the text of a new index means its commit
+pub first_means : (schema : List ℕ) (tree : Data) → IsSchemaText schema tree → Means default_settings schema (first_text schema) first_commit
+first_means schema tree is = printed_means default_settings schema tree first_commit first_is_commit (omega arith) is
+
 -- what `meta.json` means after the opening
 meta_means : (schema : List ℕ) (tree : Data) (old now : Option (List ℕ)) (settings : Settings) (commit : Commit) → IsSchemaText schema tree → FindsCommit schema old settings commit
     → (IsSome old → now ≡ old) → (old ≡ None → now ≡ Some (first_text schema)) → (text : List ℕ) × (now ≡ Some text) × Means settings schema text commit
 meta_means schema tree None now settings commit is found stood made =
-    let first : Means default_settings schema (first_text schema) first_commit = printed_means default_settings schema tree first_commit first_is_commit (omega arith) is in
+    let first = first_means schema tree is in
     (first_text schema, made refl, subst (λ (c : Commit). Means settings schema (first_text schema) c) (sym found.1) (subst (λ (s : Settings). Means s schema (first_text schema) first_commit) (sym found.0) first))
 meta_means schema tree (Some bytes) now settings commit is found stood made = (bytes, stood refl, found)
 

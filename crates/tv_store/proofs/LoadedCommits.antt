@@ -1,5 +1,5 @@
 -- The commit that is loaded from `meta.json` is that of each state that is held.
-use Rattle.std.proofs.Common.{◌≡◌, ℕ, List, Option, Some, sym, ap, subst, ◌∙◌}
+use Rattle.std.proofs.Common.{◌≡◌, ℕ, List, Some, sym, ap, subst, ◌∙◌}
 use Rattle.tv_device.specs.declared.directory.Directory.{Ghosts}
 use Rattle.tv_metas.specs.Metas.{commit_of, settings_of}
 use Rattle.tv_metas.specs.Parsing.{MeansOtherThan}

@@ -200,14 +200,25 @@ module _ {O W C : Type 0} (g : Ghosts O W C) (outside : O) (schema : List ℕ) (
       collections = ap (λ (k : KeptState). k.collections) kept_is ∙ f.collections;
     }
 
+    -- since an index was found
+    pub told_since : g.told.heard → TellsLine (g.view outside).heard (g.view started.outside).heard (g.view files.outside).moment (g.view started.outside).moment (opening_of catalog.commit)
+    told_since t =
+        let k = s.told t in
+        record {
+          moment = k.moment;
+          later = k.later;
+          sooner = k.sooner;
+          heard = k.heard ∙ ap (λ (h : Heard). h ++ (k.moment, opening_of catalog.commit ++ 10 ∷ []) ∷ []) heard_yet;
+        }
+
     told_begun : g.told.heard → TellsLine (g.view outside).heard (g.view started.outside).heard (g.view outside).moment (g.view started.outside).moment (opening_of catalog.commit)
     told_begun t =
-        let k = s.told t in
+        let k = told_since t in
         record {
           moment = k.moment;
           later = omega (arith, under.only.tells_none.deletes_none.goes_on.clock, f.frame.notes.frame.tells_none.deletes_none.goes_on.clock, k.later);
           sooner = k.sooner;
-          heard = k.heard ∙ ap (λ (h : Heard). h ++ (k.moment, opening_of catalog.commit ++ 10 ∷ []) ∷ []) heard_yet;
+          heard = k.heard;
         }
 
     kept_locked : g.told.locks → SameLocks (g.view locked).locks (g.view started.outside).locks

@@ -14,11 +14,13 @@ pub mod Applying
 pub mod Stays
 pub mod Committing
 pub mod FileCalls
+pub mod FileStates
 pub mod CollectingCalls
 pub mod Reopening
 pub mod Actions
 pub mod Plans
 pub mod Performing
+pub mod Durable
 pub mod SnapshotCalls
 pub mod Acting
 pub mod OpeningCauses
@@ -27,3 +29,5 @@ pub mod UnderLock
 pub mod Saving
 pub mod Opening
 pub mod EventLaws
+pub mod Surviving
+pub mod CrashLaws

@@ -51,14 +51,16 @@ TakesMore open_files name more =
     IsSome (at open_files name)
     × ((body : List ℕ) → at open_files name ≡ Some body → length body + more < 2 ^ 64)
 
--- What a save wants: this text is the commit's, which is sound and has the next number, and these are the
--- files that it requires.
+-- What a save wants: this text is the commit's, which is sound and has the next number; these are the files
+-- that it requires; and live segments require them.
 pub record SavesNext (kept : KeptState) (commit : Commit) (text : List ℕ) (required : List (List ℕ))
     : Type 0 where
   pub prints : PrintsNext kept commit text
   pub next : kept.catalog.next < last_stamp
   pub files : required ≡ all_required commit.segments
   pub each : AllByRecursion IsFileOf required
+  pub live : (n : List ℕ) → has (all_required commit.segments) n ≡ true
+      → has (all_required kept.catalog.live) n ≡ true
 
 -- What an action wants that is performed: the name of a file that is made, written or sealed is one of a
 -- segment's; a file that is written or sealed is open; a save is one of the next commit; a collection

@@ -1,5 +1,6 @@
 //! Answers, and the room that is made for them before the device is asked.
 ghost use Rattle.std.specs.Prelude.{◌≡◌, ◌<◌, [], ◌∷◌, true, length, codes, IfOk, OnOk};
+ghost use Rattle.tv_device.specs.Images.{KeepsDisk};
 ghost use Rattle.tv_machine.specs.Lines.{line};
 ghost use Rattle.tv_formats.specs.Files.{has_no_feed};
 ghost use Rattle.tv_store.specs.Stays.{AsksQuietly, AsksOrFails};
@@ -25,6 +26,8 @@ impl<O: Outside> IndexStore<O> {
         ensures answer { IfOk result (λ ready. ready ≡ answer) }
         ensures room { OnOk result (length answer < (O.view self.new.outside).room) }
         ensures asks { AsksQuietly O.Directory self.old self.new }
+        ensures images { O.tells_images
+            → KeepsDisk (O.disk self.old.outside) (O.disk self.new.outside) }
     {
         self.files.ready(answer.as_slice().len())?;
         Ok(answer)
@@ -36,6 +39,8 @@ impl<O: Outside> IndexStore<O> {
         ensures room { IfOk result (λ answer. length answer < (O.view self.new.outside).room) }
         ensures quiet { (O.view self.new.outside).faults ≡ (O.view self.old.outside).faults }
         ensures asks { AsksOrFails O.Directory self.old self.new result }
+        ensures images { O.tells_images
+            → KeepsDisk (O.disk self.old.outside) (O.disk self.new.outside) }
     {
         let ready = self.ready(answer)?;
         Ok(ready)

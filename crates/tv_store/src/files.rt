@@ -13,9 +13,11 @@ ghost use Rattle.tv_device.specs.Calls.{DeviceFaults, Frees, LockFaults, Acquire
 ghost use Rattle.tv_device.specs.Images.{KeepsDisk};
 ghost use Rattle.tv_device.specs.View.{Kept, OnlyReads, OnlyLocks, OnlyTells};
 ghost use Rattle.tv_machine.specs.Index.{IsFileOf};
+ghost use Rattle.tv_managed.specs.Crashes.{ReadsSafely};
 ghost use Rattle.tv_managed.specs.Managed.{KeepsOtherFiles};
 ghost use Rattle.tv_managed.specs.Reading.{ReadsBody};
 ghost use Rattle.tv_store.specs.FileCalls.{Asked, intact_in, LeavesFiles, OpensFile, FindsFile, ReadBodyFaults, LeavesText, KeepsOpenFiles, SavesSafely, unless_taken};
+ghost use Rattle.tv_store.specs.FileStates.{OpensFileSafely, SealsSafely};
 ghost use Rattle.tv_index.specs.NewForms.{form_with};
 ghost use Rattle.tv_index.specs.Saving.{SavesMeta};
 ghost use Rattle.tv_metas.specs.Settings.{settings_view};
@@ -172,6 +174,8 @@ impl<O: Outside> StoreFiles<O> {
         ensures faults { MetaFaults O.Directory self.old.outside self.new.outside
             (Some self.old.form.schema) result }
         ensures frame { KeepsFiles (OnlyReads O.told) O.view self.old self.new }
+        ensures images { O.tells_images
+            → KeepsDisk (O.disk self.old.outside) (O.disk self.new.outside) }
     {
         self.index.load_untracked_metas(alloc)
     }
@@ -225,6 +229,8 @@ impl<O: Outside> StoreFiles<O> {
         ensures faults { LockFaults O.told (O.view self.old.outside)
             (O.view self.new.outside) lock.now.filepath.now result }
         ensures frame { KeepsFiles (OnlyLocks O.told) O.view self.old self.new }
+        ensures images { O.tells_images
+            → KeepsDisk (O.disk self.old.outside) (O.disk self.new.outside) }
     {
         self.index.directory_mut().acquire_lock(lock)
     }
@@ -232,6 +238,8 @@ impl<O: Outside> StoreFiles<O> {
     /// Frees a lock. Takes no memory.
     pub(crate) fn release(&mut self, lock: DirectoryLock)
         ensures frees { KeepsFiles (Frees O.told lock) O.view self.old self.new }
+        ensures images { O.tells_images
+            → KeepsDisk (O.disk self.old.outside) (O.disk self.new.outside) }
     {
         self.index.directory_mut().release(lock);
     }
@@ -243,6 +251,8 @@ impl<O: Outside> StoreFiles<O> {
             (at self.old.open_files name.now) (has self.old.left name.now)) }
         ensures faults { EventFaults ⊥ (O.view self.old.outside) (O.view self.new.outside) result }
         ensures frame { KeepsFiles (OnlyReads O.told) O.view self.old self.new }
+        ensures images { O.tells_images
+            → KeepsDisk (O.disk self.old.outside) (O.disk self.new.outside) }
     {
         if self.files.contains_key(name) || self.left.contains(name) {
             return Ok(false);
@@ -280,6 +290,7 @@ impl<O: Outside> StoreFiles<O> {
         ensures kept { OnErr result (self.new.open_files ≡ self.old.open_files) }
         ensures faults { EventFaults ⊥ (O.view self.old.outside) (O.view self.new.outside) result }
         ensures frame { KeepsMade (Kept O.told) O.view self.old self.new }
+        ensures safe { O.tells_images → OpensFileSafely O.Directory name self.old self.new }
     {
         // A file that is made anew isn't sealed, whatever was known of its name.
         let _known = self.known.remove(&name);
@@ -306,6 +317,8 @@ impl<O: Outside> StoreFiles<O> {
         ensures there { O.told.content
             → OnOk result (IsSome ((O.view self.new.outside).reads name.now)) }
         ensures rest { OnlyWrites O.Directory self.old self.new result }
+        ensures safe { O.tells_images
+            → ReadsSafely O.Directory (names_below self.old) (names_below self.new) }
     {
         let Some(file) = self.files.get_mut(name) else {
             unreachable!()
@@ -336,6 +349,7 @@ impl<O: Outside> StoreFiles<O> {
             ≡ remove_entry (is_at (byte_cmp name)) self.old.open_files }
         ensures closed { at self.new.open_files name ≡ None }
         ensures rest { OnlyWrites O.Directory self.old self.new result }
+        ensures safe { O.tells_images → SealsSafely O.Directory name self.old self.new result }
     {
         let Some(file) = self.files.remove(&name) else {
             unreachable!()
@@ -383,6 +397,8 @@ impl<O: Outside> StoreFiles<O> {
             (at self.old.open_files name.now) (has self.old.left name.now)) }
         ensures faults { EventFaults ⊥ (O.view self.old.outside) (O.view self.new.outside) result }
         ensures frame { KeepsFiles (OnlyReads O.told) O.view self.old self.new }
+        ensures images { O.tells_images
+            → KeepsDisk (O.disk self.old.outside) (O.disk self.new.outside) }
     {
         if self.files.contains_key(name) || self.left.contains(name) {
             return Ok(None);

@@ -7,10 +7,13 @@ ghost use Rattle.tv_formats.specs.Files.{Same};
 ghost use Rattle.tv_formats.specs.Listing.{IsListFile, Listing};
 ghost use Rattle.tv_device.specs.View.{Kept, MayDelete, OnlyReads};
 ghost use Rattle.tv_managed.specs.Collecting.{texts_of};
+ghost use Rattle.tv_managed.specs.Crashes.{EndsSafely, LeavesSafely, SettlesStates, StepsSafely};
 ghost use Rattle.tv_store.specs.CollectingCalls.{BeginsCollection, FinishesCollection, HasUntried, KeepsUncollected, KeepsUnlisted, TriesNext};
 ghost use Rattle.tv_store.specs.Effects.{collection_after};
 ghost use Rattle.tv_store.specs.Exhausted.{SomePassesEnd};
 ghost use Rattle.tv_store.specs.FileCalls.{Collects, GcFaults};
+ghost use Rattle.tv_store.specs.FileStates.{CollectsSafely};
+ghost use Rattle.tv_store.specs.Kept.{names_below};
 ghost use Rattle.tv_store.specs.Reopening.{Reopens};
 ghost use Rattle.tv_store.specs.Stays.{EventFaults, KeepsAllButList, KeepsDotted, KeepsForm};
 
@@ -157,6 +160,9 @@ impl<O: Outside> StoreFiles<O> {
             (collection_after self.old.collections))
             self.old.outside self.new.outside result }
         ensures frame { KeepsUncollected (OnlyReads O.told) O.view self.old self.new }
+        ensures safe { O.tells_images → LeavesSafely O.Directory
+            (SettlesStates (O.disk self.old.outside) (O.disk self.new.outside) result)
+            (names_below self.old) (names_below self.new) }
     {
         self.index.directory_mut().collect_begin(living)
     }
@@ -175,6 +181,8 @@ impl<O: Outside> StoreFiles<O> {
             → AllByRecursion (λ e. length e.1 ≤ bound) self.new.open_files }
         ensures faults { EventFaults ⊥ (O.view self.old.outside) (O.view self.new.outside) result }
         ensures frame { KeepsForm (MayDelete O.told) O.view self.old self.new }
+        ensures safe { O.tells_images → StepsSafely (λ tried. tried.is_done) O.Directory number
+            (names_below self.old) (names_below self.new) result }
     {
         match self.index.directory_mut().collect_delete(number)? {
             CollectStep::Done(text) => {
@@ -202,6 +210,8 @@ impl<O: Outside> StoreFiles<O> {
             (O.view self.new.outside).reads }
         ensures faults { EventFaults ⊥ (O.view self.old.outside) (O.view self.new.outside) result }
         ensures frame { KeepsUnlisted (Kept O.told) O.view self.old self.new }
+        ensures safe { O.tells_images → EndsSafely O.Directory number
+            (names_below self.old) (names_below self.new) result }
     {
         let _result = self.index.directory_mut().collect_end(number)?;
         Ok(())
@@ -233,6 +243,8 @@ impl<O: Outside> StoreFiles<O> {
             (collection_after self.old.collections))
             self.old.outside self.new.outside result }
         ensures frame { KeepsForm (MayDelete O.told) O.view self.old self.new }
+        ensures safe { O.tells_images → CollectsSafely O.Directory
+            (map string_bytes living.keys) self.old self.new result }
     {
         // All names that the answer may have are managed, so there is room for them.
         let count = self.index.directory().list_managed_files().len();

@@ -1,15 +1,18 @@
 //! An index that is open, under the lock of the one who writes it.
 ghost use Rattle.std.specs.Prelude.{◌≡◌, ◌<◌, is_ok, None, true, length, IfOk, IfErr, IsSome, OnErr};
 ghost use Rattle.tv_machine.specs.Machine.{catalog_step};
+ghost use Rattle.tv_machine.specs.SoundStates.{IsWhole};
 ghost use Rattle.tv_machine.specs.State.{State};
 ghost use Rattle.tv_device.specs.Calls.{DeviceFaults, Frees};
 ghost use Rattle.tv_device.specs.Images.{KeepsDisk};
 ghost use Rattle.tv_device.specs.View.{OnlyReads, OnlyTells};
 ghost use Rattle.tv_store.specs.Acting.{Acts};
+ghost use Rattle.tv_store.specs.Durable.{ActsSafely, IsDurable, store_files};
 ghost use Rattle.tv_store.specs.Applying.{Stepped, LeavesMeta, Grows, ApplyFaults, AppliesFrame, AsksNoFile, IsUndisturbedEvent};
 ghost use Rattle.tv_store.specs.Kept.{Holds, IsHeld};
 ghost use Rattle.tv_store.specs.Opening.{Opens, LeavesIndex, TellsOpening, TakesWriterLock, OpeningFaults, OpeningFrame, OpensOrRefuses, OpensSafely};
 ghost use Rattle.tv_store.specs.StoreCauses.{writer_lock_name};
+ghost use Rattle.tv_store.specs.Surviving.{SurvivesEvent, SurvivesOpening};
 ghost use Rattle.tv_store.specs.Telling.{TellsAnswer, TriesLine};
 
 use crate::catalog::Catalog;
@@ -68,7 +71,8 @@ fn open_index<O: Outside>(
     outside: O,
     schema: &[u8],
 ) -> Result<IndexStore<O>, Refused<O>>
-    ensures { OpensOrRefuses O.Directory outside schema.now result }
+    ensures opens { OpensOrRefuses O.Directory outside schema.now result }
+    ensures survives { SurvivesOpening O.Directory outside schema.now result }
 {
     let Found {
         opening,
@@ -109,6 +113,8 @@ impl<O: Outside> IndexStore<O> {
         ensures faults { OpeningFaults O.Directory outside schema.now result }
         ensures frame { OpeningFrame O.Directory outside result }
         ensures safe { O.tells_images → OpensSafely O.Directory outside schema.now result }
+        // Of a sound directory: what a crash leaves at each moment, and that it can't hurt the files then.
+        ensures survives { SurvivesOpening O.Directory outside schema.now result }
     {
         open_index(alloc, outside, schema)
     }
@@ -126,6 +132,8 @@ impl<O: Outside> IndexStore<O> {
             → IfErr result (λ error. error ≡ TantivyError.Memory) }
         ensures faults { ApplyFaults O.Directory self.old self.new event.now result }
         ensures frame { AppliesFrame O.Directory self.old self.new event.now result }
+        // Where a crash couldn't hurt the files: what it leaves at each moment; at Ok it still can't.
+        ensures survives { SurvivesEvent O.Directory self.old self.new event.now result }
     {
         self.is_open = false;
         let answer = self.act(event)?;
@@ -142,6 +150,8 @@ impl<O: Outside> IndexStore<O> {
         ensures open { self.new.standing.is_open ≡ is_ok result }
         ensures faults { DeviceFaults (O.view self.old.outside) (O.view self.new.outside) result }
         ensures frame { OnlyTells O.told (O.view self.old.outside) (O.view self.new.outside) }
+        ensures images { O.tells_images
+            → KeepsDisk (O.disk self.old.outside) (O.disk self.new.outside) }
     {
         let told = self.files.tell(answer);
         self.is_open = told.is_ok();
@@ -153,6 +163,9 @@ impl<O: Outside> IndexStore<O> {
         ensures acts { Acts O.Directory self.old self.new event.now result }
         ensures alone { IsSome (catalog_step self.old.kept.catalog self.old.kept.managed event.now)
             → AsksNoFile (OnlyReads O.told) O.Directory self.old self.new result }
+        ensures images { O.tells_images → (s : State) → IsHeld O.Directory self.old s → IsWhole s
+            → IsDurable O.Directory (store_files self.old) s
+            → ActsSafely O.Directory self.old self.new event.now s result }
     {
         match self.catalog.act(self.files.managed(), event)? {
             Some(answer) => self.told(answer),
@@ -166,6 +179,9 @@ impl<O: Outside> IndexStore<O> {
         ensures acts { Acts O.Directory self.old self.new event.now result }
         // An error leaves all that is known beside the files, so too what each reader shows.
         ensures known { OnErr result (self.new.kept.catalog ≡ self.old.kept.catalog) }
+        ensures images { O.tells_images → (s : State) → IsHeld O.Directory self.old s → IsWhole s
+            → IsDurable O.Directory (store_files self.old) s
+            → ActsSafely O.Directory self.old self.new event.now s result }
     {
         let Planned {
             action,

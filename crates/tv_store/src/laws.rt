@@ -1,9 +1,14 @@
 //! Laws of a store: what its calls promise to whoever uses them. Each calls the real one, and says
 //! in a user's words what follows from its contract.
+mod crashes;
 mod events;
 mod opening;
 mod saving;
 
+pub use crashes::{
+    a_closed_store_is_sound, a_want_of_memory_keeps_the_commit, an_event_survives_a_crash,
+    an_opening_keeps_a_stored_commit,
+};
 pub use events::{
     bytes_reads_no_file, changes_nothing_where_it_refuses, commits_living_segments,
     draws_a_new_delete_name, reads_what_was_sealed, reload_shows_the_commit,

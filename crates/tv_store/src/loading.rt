@@ -1,5 +1,6 @@
 //! The current commit is loaded, with the bodies of its files.
 ghost use Rattle.std.specs.Prelude.{◌≡◌, Some, map, IfOk, OnOk};
+ghost use Rattle.tv_device.specs.Images.{KeepsDisk};
 ghost use Rattle.tv_device.specs.View.{OnlyReads};
 ghost use Rattle.tv_formats.specs.Segments.{all_required, required_names};
 ghost use Rattle.tv_index.specs.Standing.{MetaFaults};
@@ -36,6 +37,8 @@ fn read_bodies<O: Outside>(
     ensures faults { BodiesFaults O.Directory files.old.outside files.new.outside
         names.entry.now result }
     ensures frame { KeepsFiles (OnlyReads O.told) O.view files.old files.new }
+    ensures images { O.tells_images
+        → KeepsDisk (O.disk files.old.outside) (O.disk files.new.outside) }
 {
     let mut bodies = Vec::new(alloc);
     for name in names {
@@ -62,6 +65,8 @@ fn read_segment<O: Outside>(
     ensures faults { BodiesFaults O.Directory files.old.outside files.new.outside
         (required_names id segment) result }
     ensures frame { KeepsFiles (OnlyReads O.told) O.view files.old files.new }
+    ensures images { O.tells_images
+        → KeepsDisk (O.disk files.old.outside) (O.disk files.new.outside) }
 {
     let names = required_of(alloc, id, segment)?;
     let bodies = read_bodies(alloc, files, names.as_slice())?;
@@ -85,6 +90,8 @@ fn read_segments<O: Outside>(
     ensures faults { BodiesFaults O.Directory files.old.outside files.new.outside
         (all_required segments.now) result }
     ensures frame { KeepsFiles (OnlyReads O.told) O.view files.old files.new }
+    ensures images { O.tells_images
+        → KeepsDisk (O.disk files.old.outside) (O.disk files.new.outside) }
 {
     let mut readers = Vec::new(alloc);
     for entry in segments {
@@ -103,6 +110,8 @@ fn read_commit<O: Outside>(alloc: Global, files: &mut StoreFiles<O>) -> Result<C
     ensures faults { MetaFaults O.Directory files.old.outside files.new.outside
         (Some files.old.form.schema) result }
     ensures frame { KeepsFiles (OnlyReads O.told) O.view files.old files.new }
+    ensures images { O.tells_images
+        → KeepsDisk (O.disk files.old.outside) (O.disk files.new.outside) }
 {
     let meta = files.load_untracked_metas(alloc)?;
     let payload = meta.payload;
@@ -122,6 +131,8 @@ fn read_snapshot<O: Outside>(
         → IfOk result (λ shown. (shown ≡ snapshot_in s generation) × CanRead s) }
     ensures faults { CommitFaults O.Directory files.old files.new result }
     ensures frame { KeepsFiles (OnlyReads O.told) O.view files.old files.new }
+    ensures images { O.tells_images
+        → KeepsDisk (O.disk files.old.outside) (O.disk files.new.outside) }
 {
     let commit = read_commit(alloc, files)?;
     let segments = commit.segments(alloc)?;
@@ -141,6 +152,8 @@ pub(crate) fn load<O: Outside>(
         → IfOk result (λ shown. (shown ≡ snapshot_in s generation) × CanRead s) }
     ensures faults { LoadFaults O.Directory files.old files.new result }
     ensures frame { KeepsFiles (OnlyReads O.told) O.view files.old files.new }
+    ensures images { O.tells_images
+        → KeepsDisk (O.disk files.old.outside) (O.disk files.new.outside) }
 {
     let lock = files.acquire_lock(&meta_lock())?;
     let shown = read_snapshot(alloc, files, generation);

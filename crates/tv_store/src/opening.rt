@@ -9,6 +9,7 @@ ghost use Rattle.tv_metas.specs.Segments.{entry_of};
 ghost use Rattle.tv_store.specs.Making.{OpensCommit, ChecksFiles, FindsFiles, FindsNone, IsSorted};
 ghost use Rattle.tv_store.specs.Opening.{OpensOrRefuses};
 ghost use Rattle.tv_store.specs.StoreCauses.{writer_lock_name};
+ghost use Rattle.tv_store.specs.Surviving.{SurvivesOpening};
 ghost use Rattle.tv_store.specs.UnderLock.{FindsUnderLock, IsUnderLock, LockedOut, RefusesLock};
 
 use crate::catalog::Catalog;
@@ -181,6 +182,8 @@ pub(crate) fn find<O: Outside>(
     ensures lock { IfOk result (λ found. found.lock ≡ writer_lock_name) }
     ensures refused { IfErr result (λ refused.
         OpensOrRefuses O.Directory outside schema.now (Err refused)) }
+    ensures survives { IfErr result (λ refused.
+        SurvivesOpening O.Directory outside schema.now (Err refused)) }
 {
     let schema = match Schema::from_bytes(alloc, schema) {
         Ok(schema) => schema,

@@ -1,6 +1,7 @@
 //! Actions are performed: every call on the files that a planned event makes.
 ghost use Rattle.std.specs.Prelude.{◌≡◌, ◌≤◌, true, if◌then◌else◌, length, map, string_bytes, [], vec_len, vec_capacity, IfOk, IfSome, IsSome};
 ghost use Rattle.std.specs.List.{AllByRecursion};
+ghost use Rattle.tv_device.specs.Images.{KeepsDisk};
 ghost use Rattle.tv_device.specs.View.{OnlyReads};
 ghost use Rattle.tv_formats.specs.Collections.{collection_at};
 ghost use Rattle.tv_formats.specs.Names.{at, has, meta_name};
@@ -8,6 +9,7 @@ ghost use Rattle.tv_machine.specs.Index.{IsFileOf};
 ghost use Rattle.tv_machine.specs.State.{Catalog, State};
 ghost use Rattle.tv_store.specs.Actions.{MayGive, first_open, reply_in};
 ghost use Rattle.tv_store.specs.CollectingCalls.{HasUntried};
+ghost use Rattle.tv_store.specs.Durable.{PerformsSafely};
 ghost use Rattle.tv_store.specs.Kept.{kept_of};
 ghost use Rattle.tv_store.specs.Performing.{FilesHold, Performs};
 ghost use Rattle.tv_store.specs.Plans.{IsSegmentFile, TakesMore, CanPerform};
@@ -28,7 +30,8 @@ use tv_machine::Blob;
 // An empty file is made, unless its name is taken.
 fn make<O: Outside>(files: &mut StoreFiles<O>, name: FileName) -> Result<Reply, TantivyError>
     requires { IsSegmentFile name }
-    ensures { Performs O.Directory (actions.Make name) files.old files.new result }
+    ensures performs { Performs O.Directory (actions.Make name) files.old files.new result }
+    ensures images { PerformsSafely O.Directory (actions.Make name) files.old files.new result }
 {
     if files.open(name)? {
         Ok(Reply::Done)
@@ -45,7 +48,10 @@ fn append<O: Outside>(
 ) -> Result<Reply, TantivyError>
     requires name { IsSegmentFile name }
     requires open { TakesMore files.old.open_files name (length bytes.now) }
-    ensures { Performs O.Directory (actions.Append name bytes.entry) files.old files.new result }
+    ensures performs { Performs O.Directory (actions.Append name bytes.entry)
+        files.old files.new result }
+    ensures images { PerformsSafely O.Directory (actions.Append name bytes.entry)
+        files.old files.new result }
 {
     files.write(&name, bytes.as_slice())?;
     Ok(Reply::Done)
@@ -55,7 +61,8 @@ fn append<O: Outside>(
 fn seal<O: Outside>(files: &mut StoreFiles<O>, name: FileName) -> Result<Reply, TantivyError>
     requires name { IsSegmentFile name }
     requires open { IsSome (at files.old.open_files name) }
-    ensures { Performs O.Directory (actions.Seal name) files.old files.new result }
+    ensures performs { Performs O.Directory (actions.Seal name) files.old files.new result }
+    ensures images { PerformsSafely O.Directory (actions.Seal name) files.old files.new result }
 {
     files.seal(name)?;
     Ok(Reply::Done)
@@ -63,7 +70,8 @@ fn seal<O: Outside>(files: &mut StoreFiles<O>, name: FileName) -> Result<Reply, 
 
 // The open ones of these files are left.
 fn leave<O: Outside>(files: &mut StoreFiles<O>, names: Vec<FileName>) -> Result<Reply, TantivyError>
-    ensures { Performs O.Directory (actions.Leave names) files.old files.new result }
+    ensures performs { Performs O.Directory (actions.Leave names) files.old files.new result }
+    ensures images { PerformsSafely O.Directory (actions.Leave names) files.old files.new result }
 {
     files.leave(names)?;
     Ok(Reply::Done)
@@ -81,6 +89,8 @@ fn first_unsealed<O: Outside>(
     ensures among { IfOk result (λ found. IfSome found (λ name. has names.items name ≡ true)) }
     ensures faults { EventFaults ⊥ (O.view files.old.outside) (O.view files.new.outside) result }
     ensures frame { KeepsFiles (OnlyReads O.told) O.view files.old files.new }
+    ensures images { O.tells_images
+        → KeepsDisk (O.disk files.old.outside) (O.disk files.new.outside) }
 {
     for name in names {
         if !files.is_sealed(&name)? {
@@ -100,7 +110,10 @@ fn save<O: Outside>(
 ) -> Result<Reply, TantivyError>
     requires { (catalog : Catalog) × CanPerform (kept_of catalog files.old)
         (actions.Save commit text required) }
-    ensures { Performs O.Directory (actions.Save commit text required) files.old files.new result }
+    ensures performs { Performs O.Directory (actions.Save commit text required)
+        files.old files.new result }
+    ensures images { PerformsSafely O.Directory (actions.Save commit text required)
+        files.old files.new result }
 {
     if let Some(name) = first_unsealed(files, required)? {
         return Ok(Reply::Unsealed(name));
@@ -116,7 +129,9 @@ fn collect<O: Outside>(
     living: BTreeSet<String>,
 ) -> Result<Reply, TantivyError>
     requires { has (map string_bytes living.keys) meta_name ≡ true }
-    ensures { Performs O.Directory (actions.Collect living) files.old files.new result }
+    ensures performs { Performs O.Directory (actions.Collect living) files.old files.new result }
+    ensures images { PerformsSafely O.Directory (actions.Collect living)
+        files.old files.new result }
 {
     let collected = files.collect(alloc, living)?;
     Ok(Reply::Collected(collected))
@@ -128,7 +143,8 @@ fn begin<O: Outside>(
     living: BTreeSet<String>,
 ) -> Result<Reply, TantivyError>
     requires { has (map string_bytes living.keys) meta_name ≡ true }
-    ensures { Performs O.Directory (actions.Begin living) files.old files.new result }
+    ensures performs { Performs O.Directory (actions.Begin living) files.old files.new result }
+    ensures images { PerformsSafely O.Directory (actions.Begin living) files.old files.new result }
 {
     files.collect_begin(&living)?;
     Ok(Reply::Done)
@@ -137,7 +153,8 @@ fn begin<O: Outside>(
 // The first name that a collection has left is tried.
 fn try_next<O: Outside>(files: &mut StoreFiles<O>, number: u64) -> Result<Reply, TantivyError>
     requires { HasUntried files.old.collections number }
-    ensures { Performs O.Directory (actions.Try number) files.old files.new result }
+    ensures performs { Performs O.Directory (actions.Try number) files.old files.new result }
+    ensures images { PerformsSafely O.Directory (actions.Try number) files.old files.new result }
 {
     let tried = files.collect_delete(number)?;
     Ok(Reply::Tried(tried))
@@ -146,7 +163,8 @@ fn try_next<O: Outside>(files: &mut StoreFiles<O>, number: u64) -> Result<Reply,
 // A collection is finished.
 fn end<O: Outside>(files: &mut StoreFiles<O>, number: u64) -> Result<Reply, TantivyError>
     requires { IsSome (collection_at files.old.collections number) }
-    ensures { Performs O.Directory (actions.End number) files.old files.new result }
+    ensures performs { Performs O.Directory (actions.End number) files.old files.new result }
+    ensures images { PerformsSafely O.Directory (actions.End number) files.old files.new result }
 {
     files.collect_end(number)?;
     Ok(Reply::Done)
@@ -168,6 +186,8 @@ fn find_damaged<O: Outside>(
         (actions.Validate names)) }
     ensures faults { EventFaults ⊥ (O.view files.old.outside) (O.view files.new.outside) result }
     ensures frame { KeepsFiles (OnlyReads O.told) O.view files.old files.new }
+    ensures images { O.tells_images
+        → KeepsDisk (O.disk files.old.outside) (O.disk files.new.outside) }
 {
     let mut damaged = room;
     for name in names {
@@ -186,7 +206,9 @@ fn validate<O: Outside>(
     files: &mut StoreFiles<O>,
     names: Vec<FileName>,
 ) -> Result<Reply, TantivyError>
-    ensures { Performs O.Directory (actions.Validate names) files.old files.new result }
+    ensures performs { Performs O.Directory (actions.Validate names) files.old files.new result }
+    ensures images { PerformsSafely O.Directory (actions.Validate names)
+        files.old files.new result }
 {
     let room = Vec::with_capacity(alloc, names.len())?;
     find_damaged(files, names, room)
@@ -194,7 +216,8 @@ fn validate<O: Outside>(
 
 // The open files are left, and no collection is unfinished any more.
 fn reopen<O: Outside>(alloc: Global, files: &mut StoreFiles<O>) -> Result<Reply, TantivyError>
-    ensures { Performs O.Directory actions.Reopen files.old files.new result }
+    ensures performs { Performs O.Directory actions.Reopen files.old files.new result }
+    ensures images { PerformsSafely O.Directory actions.Reopen files.old files.new result }
 {
     files.reopen(alloc)?;
     Ok(Reply::Done)
@@ -206,7 +229,9 @@ fn load_commit<O: Outside>(
     files: &mut StoreFiles<O>,
     generation: u64,
 ) -> Result<Reply, TantivyError>
-    ensures { Performs O.Directory (actions.Load generation) files.old files.new result }
+    ensures performs { Performs O.Directory (actions.Load generation) files.old files.new result }
+    ensures images { PerformsSafely O.Directory (actions.Load generation)
+        files.old files.new result }
 {
     let shown = load(alloc, files, generation)?;
     Ok(Reply::Loaded(shown))
@@ -219,7 +244,8 @@ pub(crate) fn perform<O: Outside>(
     action: Action<'_>,
 ) -> Result<Reply, TantivyError>
     requires { (catalog : Catalog) × CanPerform (kept_of catalog files.old) action }
-    ensures { Performs O.Directory action.entry files.old files.new result }
+    ensures performs { Performs O.Directory action.entry files.old files.new result }
+    ensures images { PerformsSafely O.Directory action.entry files.old files.new result }
 {
     match action {
         Action::Nothing => Ok(Reply::Done),

@@ -13,11 +13,19 @@ mod checksum;
 #[cfg(test)]
 mod closing;
 #[cfg(test)]
+mod collection_crashes;
+#[cfg(test)]
 mod collections;
+#[cfg(test)]
+mod commit_crashes;
 #[cfg(test)]
 mod compare;
 #[cfg(test)]
 mod composites;
+#[cfg(test)]
+mod crash_images;
+#[cfg(test)]
+mod crash_runs;
 #[cfg(test)]
 mod crashes;
 #[cfg(test)]
@@ -58,6 +66,8 @@ mod lists;
 mod managed;
 #[cfg(test)]
 mod moved_folders;
+#[cfg(test)]
+mod opening_crashes;
 #[cfg(test)]
 mod places;
 #[cfg(test)]

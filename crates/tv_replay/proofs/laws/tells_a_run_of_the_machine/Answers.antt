@@ -6,4 +6,5 @@ pub returns : goal.returns
 returns g c = record {
   headline = λ content heard locks start text told.
       IfOk-weaker c.replay.result.outcome _ _ (λ tally did. derived g.O.Directory _ _ _ text _ tally content heard locks start told c.replay.ensures.frame did) c.replay.ensures.done;
+  crashes = c.replay.ensures.survives;
 }

@@ -41,5 +41,6 @@ returns-clause-ends g c =
       cause = rw c.in-Err-outcome.is at c.replay-outside.ensures.faults.cause;
       stops = rw c.in-Err-outcome.is at c.replay-outside.ensures.stops;
       frame = c.replay-outside.ensures.frame;
+      survives = c.replay-outside.ensures.survives;
       reports = reports_since (g.P.Place.view c.args.place.now) (texts_then had_schema.frame.folders.texts lent.frame.texts) (lent.faults.quiet ∙ had_schema.faults.quiet) (lent.frame.said ∙ had_schema.frame.said) lent.lends.lent reports;
     })

@@ -1,4 +1,4 @@
-use Rattle.std.proofs.Common.{◌≡◌, ◌≢◌, ◌<◌, ◌+◌, ◌*◌, ◌^◌, ℕ, [], length, true, true≢false, refl, sym, ap, subst, ◌∙◌, inl, inr, arith}
+use Rattle.std.proofs.Common.{◌≡◌, ◌≢◌, ◌<◌, ◌+◌, ◌*◌, ◌^◌, ℕ, [], length, true≢false, refl, sym, ap, subst, ◌∙◌, inl, inr, arith}
 use Rattle.tv_machine.specs.State.{Catalog}
 use Rattle.tv_machine.specs.Machine.{after}
 use Rattle.tv_formats.specs.Names.{meta_name}
@@ -19,6 +19,7 @@ use Rattle.tv_replay.proofs.Progress.{begins_next}
 use Rattle.tv_replay.proofs.Stopping.{stops_between, stops_in, event_stops, script_stops, end_stops, refused_next, nothing_ahead, busy_since}
 use Rattle.tv_replay.proofs.ReadAhead.{event_known, end_known}
 use Rattle.tv_replay.proofs.ReplayFrames.{frame_then, may_note, no_time}
+use Rattle.tv_replay.proofs.Surviving.{in_event, in_part}
 use Rattle.tv_replay.proofs.AppliedEvents.{starts, goes_on, ends, stops_at_line, stops_at_long, stops_at_last, one_more_line, never_spent, event_cause, script_cause, end_cause, fails, if_err_both, if_ok_both, meta_stands, rose_from}
 use Rattle.tv_replay.proofs.replaying.apply_all.Goals as goal
 
@@ -41,7 +42,7 @@ loop-events-preserved g c =
     let applied = c.in_ok-_answer.ensures in
     record {
       run = goes_on g.O.Directory c.args.store.now c.loop-events.store c.apply.new.self _ _ _ c.loop-events.events c.in-Ok-Some.event c.in_ok-_answer._answer before.run taken line.fits applied.frame.form
-          (λ locks held takes. true≢false (sym (before.frame.locks locks meta_lock_name ∙ held) ∙ applied.faults.free locks takes)) applied.step applied.tells.ok;
+          (λ locks held takes. true≢false (sym (before.frame.locks locks meta_lock_name ∙ held) ∙ applied.faults.free locks takes)) applied.step applied.tells.ok (g.met.O.Directory.tells_more, applied.survives);
       held = c.in-Ok-Some.ensures.held;
       is_open = applied.frame.is_open;
       short = subst (λ (bound : ℕ). AtMost bound c.apply.new.self.kept) (one_more_line c.loop-events.events) (applied.grows.lens (c.loop-events.events * line_limit) line_limit line.small before.short);
@@ -150,3 +151,24 @@ returns-clause-stops g c =
     (λ quiet. end_known _ _ (Rose start end) (end ≡ start) error cause known (λ rose. quiet (rose_from _ _ _ c.loop-events.invariant.quiet.1 rose)))
     (λ s. end_stops text s run.turns _ _ (Rose start end) (end ≡ start) error (sym run.counted ∙ all) cause (refused_next text _ run.turns (λ rest. rest ≢ []) run.read)))
     c.end_of.ensures.faults.cause c.end_of.ensures.ahead.err
+
+pub returns-in_err-buffer-clause-survives : goal.returns-in_err-buffer-clause-survives
+returns-in_err-buffer-clause-survives g c =
+    let left = (g.R.Source.view c.args.script.now).left in
+    in_part g.O.Directory c.args.store.now c.args.store.now left _ 0 (starts g.O.Directory c.args.store.now [] left refl)
+
+pub returns-in-Ok-None-clause-survives : goal.returns-in-Ok-None-clause-survives
+returns-in-Ok-None-clause-survives g c = in_part g.O.Directory c.args.store.now c.loop-events.store _ _ _ c.loop-events.invariant.run
+
+pub returns-in-Err-clause-survives : goal.returns-in-Err-clause-survives
+returns-in-Err-clause-survives g c = in_part g.O.Directory c.args.store.now c.loop-events.store _ _ _ c.loop-events.invariant.run
+
+pub returns-clause-survives : goal.returns-clause-survives
+returns-clause-survives g c = in_part g.O.Directory c.args.store.now c.loop-events.store _ _ _ c.loop-events.invariant.run
+
+pub returns-in_err-_answer-clause-survives : goal.returns-in_err-_answer-clause-survives
+returns-in_err-_answer-clause-survives g c =
+    let taken = rw c.in-Ok-Some.field-0-is at c.in-Ok-Some.ensures.event in
+    let line = rw c.in-Ok-Some.field-0-is at c.in-Ok-Some.ensures.fits in
+    in_event g.O.Directory c.args.store.now c.loop-events.store c.apply.new.self _ _ _ _ c.in-Ok-Some.event c.in_err-_answer.field-0.0 c.loop-events.invariant.run taken line.fits
+    (g.met.O.Directory.tells_more, c.in_err-_answer.ensures.survives)

@@ -15,6 +15,7 @@ use Rattle.tv_replay.proofs.AppliedEvents.{replays, run_cause, either_rose, read
 use Rattle.tv_replay.proofs.Complete.{only_memory}
 use Rattle.tv_replay.proofs.ReplayFrames.{noted_since, run_frame}
 use Rattle.tv_replay.proofs.Stopping.{stops_report, opening_cause, opening_told, busy_since_opening, either_behind, meta_since, none_behind, none_met}
+use Rattle.tv_replay.proofs.Surviving.{survives_opened, survives_refused, survives_run}
 use Rattle.tv_replay.proofs.replaying.replay.Goals as goal
 
 pub returns-in-Err-clause-stops : goal.returns-in-Err-clause-stops
@@ -111,7 +112,10 @@ returns-clause-done g c =
     replays D c.args.outside c.args.schema.now c.in-Ok.store c.apply_all-outcome.new.store c.into_outside.result text left tally opened.opens opened.tells.ok opened.frame.ok.deletes_none.refusals
     freed.holds freed.frees.frame.tells_none.heard freed.frees.frame.tells_none.deletes_none.goes_on.clock freed.frees.frame.tells_none.deletes_none.refusals
     (λ locks held. meta_since (D.view c.args.outside).locks (D.view c.in-Ok.store.outside).locks (opened.locks.ok locks) ∙ held)
-    (λ tells none. noted_since (D.view c.args.outside).watched (opened.frame.made tells none) c.apply_all-outcome.ensures.frame.watched freed.frees.frame.watched) runs)
+    (λ tells none. noted_since (D.view c.args.outside).watched (opened.frame.made tells none) c.apply_all-outcome.ensures.frame.watched freed.frees.frame.watched)
+    (λ turns applied t th locks sound.
+    survives_run D c.args.outside c.args.schema.now c.in-Ok.store c.apply_all-outcome.new.store c.into_outside.result (g.met.O.Directory.tells_more t) opened.opens (opened.survives t th locks sound) (freed.images t)
+    freed.frees.frame.tells_none.heard turns (λ s held whole durable. (applied.survives t th s held whole durable).runs.runs)) runs)
     c.apply_all-outcome.ensures.done
 
 pub returns-clause-read_out : goal.returns-clause-read_out
@@ -160,3 +164,14 @@ returns-clause-complete g c all =
     all.content all.content all.ready (none_met D.told.locks before.locks (Rose before.faults now.faults) all.locks all.ready.sound.free) all.quiet
     (none_behind D.told before script script_now now.faults (Rose script.faults script_now.faults) all.locks all.ready.sound.free all.quiet) cause stops)
     (returns-clause-faults g c).cause (returns-clause-stops g c)
+
+pub returns-in-Err-clause-survives : goal.returns-in-Err-clause-survives
+returns-in-Err-clause-survives g c t th locks sound = survives_refused g.O.Directory c.args.outside c.args.schema.now _ c.in-Err.field-0 (c.in-Err.ensures.survives t th locks sound)
+
+pub returns-clause-survives : goal.returns-clause-survives
+returns-clause-survives g c t th locks sound =
+    let D = g.O.Directory in
+    let freed = c.into_outside.ensures in
+    let ran = c.apply_all-outcome.ensures.survives in
+    survives_opened D c.args.outside c.args.schema.now c.in-Ok.store c.apply_all-outcome.new.store c.into_outside.result (g.met.O.Directory.tells_more t) c.in-Ok.ensures.opens (c.in-Ok.ensures.survives t th locks sound)
+    (freed.images t) freed.frees.frame.tells_none.heard (g.R.Source.view c.args.script.now).left (g.met.O.Directory.stands c.args.outside t) ((returns-clause-frame g c).locks locks) ran (ran.runs t th) sound

@@ -3,6 +3,7 @@ use Rattle.std.proofs.lemmas.Result.{IfErr-weaker}
 use Rattle.tv_managed.specs.Collecting.{meta_lock_name}
 use Rattle.tv_store.specs.ReadCauses.{IsReadError}
 use Rattle.tv_store.proofs.LoadedFiles.{read_later}
+use Rattle.tv_managed.specs.TrackLaws.{keeps_then}
 use Rattle.tv_store.proofs.loading.load.Goals as goal
 
 pub returns-clause-faults : goal.returns-clause-faults
@@ -21,3 +22,6 @@ returns-clause-faults g c =
           (λ error why. read_later D old mid c.read_snapshot-shown.new.files c.release.new.self _ error took.frame took.frame.managed.below.content took.faults.quiet c.release.ensures.frees.managed.below.faults why)
           c.read_snapshot-shown.ensures.faults.cause;
     }
+
+pub returns-clause-images : goal.returns-clause-images
+returns-clause-images g c t = keeps_then (c.acquire_lock.ensures.images t) (keeps_then (c.read_snapshot-shown.ensures.images t) (c.release.ensures.images t))

@@ -8,6 +8,7 @@ use Rattle.tv_store.specs.Kept.{kept_of}
 use Rattle.tv_store.proofs.CheckedFiles.{files_then}
 use Rattle.tv_store.proofs.LoadedFiles.{held_later}
 use Rattle.tv_store.proofs.ReaderEvents.{fails_here, bodies_more, good_more}
+use Rattle.tv_managed.specs.TrackLaws.{keeps_then}
 use Rattle.tv_store.proofs.loading.read_bodies.Goals as goal
 
 pub returns-in_err-body-clause-faults : goal.returns-in_err-body-clause-faults
@@ -43,6 +44,7 @@ loop-name-preserved g c =
           good_more (D.view c.args.files.now.outside).reads c.args.names.now c.loop-name.name-index c.name-item.result c.in_ok-body.body within c.name-item.is
           (let read = asked.body tells in (read.0, sym (so_far.frame.managed.below.content tells c.name-item.result) ∙ read.1, read.2)) (so_far.good tells);
       frame = files_then reads_then so_far.frame asked.frame;
+      images = λ t. keeps_then (so_far.images t) (asked.images t);
       quiet = asked.faults.quiet ∙ so_far.quiet;
     }
 
@@ -62,3 +64,12 @@ returns-clause-bodies g c tells s held sealed =
 
 pub returns-clause-frame : goal.returns-clause-frame
 returns-clause-frame g c = c.loop-name.invariant.frame
+
+pub returns-in_err-body-clause-images : goal.returns-in_err-body-clause-images
+returns-in_err-body-clause-images g c t = keeps_then (c.loop-name.invariant.images t) (c.in_err-body.ensures.images t)
+
+pub returns-in_err-push-clause-images : goal.returns-in_err-push-clause-images
+returns-in_err-push-clause-images g c t = keeps_then (c.loop-name.invariant.images t) (c.in_ok-body.ensures.images t)
+
+pub returns-clause-images : goal.returns-clause-images
+returns-clause-images g c t = c.loop-name.invariant.images t

@@ -1,4 +1,4 @@
-use Rattle.std.proofs.Common.{◌≡◌, ◌∙◌, List, ap, map, option_map, string_bytes, subst, sym}
+use Rattle.std.proofs.Common.{◌∙◌, List, ap, map, option_map, string_bytes, subst, sym}
 use Rattle.tv_metas.specs.Segments.{entry_of}
 use Rattle.tv_metas.specs.declared.segment_meta.InnerSegmentMeta.{InnerSegmentMeta}
 use Rattle.tv_store.specs.Kept.{kept_of}

@@ -10,6 +10,7 @@ use Rattle.tv_store.specs.declared.snapshot.SegmentReader.{SegmentReader}
 use Rattle.tv_store.proofs.CheckedFiles.{files_then}
 use Rattle.tv_store.proofs.LoadedFiles.{held_later}
 use Rattle.tv_store.proofs.ReaderEvents.{segments_fail, segments_good, segment_is_sealed, read_more}
+use Rattle.tv_managed.specs.TrackLaws.{keeps_then}
 use Rattle.tv_store.proofs.loading.read_segments.Goals as goal
 
 pub returns-in_err-reader-clause-faults : goal.returns-in_err-reader-clause-faults
@@ -50,6 +51,7 @@ loop-entry-preserved g c =
       good = λ tells.
           segments_good (D.view c.args.files.now.outside).reads (D.view c.loop-entry.files.outside).reads items i entry (so_far.frame.managed.below.content tells) within c.entry-item.is (so_far.good tells) (asked.good tells);
       frame = files_then reads_then so_far.frame asked.frame;
+      images = λ t. keeps_then (so_far.images t) (asked.images t);
       quiet = asked.faults.quiet ∙ so_far.quiet;
     }
 
@@ -70,3 +72,12 @@ returns-clause-readers g c tells s held all =
 
 pub returns-clause-frame : goal.returns-clause-frame
 returns-clause-frame g c = c.loop-entry.invariant.frame
+
+pub returns-in_err-reader-clause-images : goal.returns-in_err-reader-clause-images
+returns-in_err-reader-clause-images g c t = keeps_then (c.loop-entry.invariant.images t) (c.in_err-reader.ensures.images t)
+
+pub returns-in_err-push-clause-images : goal.returns-in_err-push-clause-images
+returns-in_err-push-clause-images g c t = keeps_then (c.loop-entry.invariant.images t) (c.in_ok-reader.ensures.images t)
+
+pub returns-clause-images : goal.returns-clause-images
+returns-clause-images g c t = c.loop-entry.invariant.images t

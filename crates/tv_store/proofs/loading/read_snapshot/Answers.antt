@@ -11,6 +11,7 @@ use Rattle.tv_store.specs.Performing.{loading_facts}
 use Rattle.tv_store.specs.ReadCauses.{LoadingCause}
 use Rattle.tv_store.proofs.LoadedCommits.{shown_is}
 use Rattle.tv_store.proofs.LoadedFiles.{commit_fails, held_later, load_fails}
+use Rattle.tv_managed.specs.TrackLaws.{keeps_then}
 use Rattle.tv_store.proofs.loading.read_snapshot.Goals as goal
 
 pub returns-in_err-commit-clause-faults : goal.returns-in_err-commit-clause-faults
@@ -55,3 +56,9 @@ returns-clause-shown g c tells s held whole =
       c.new.ensures ∙ shown_is s c.args.generation c.in_ok-commit.commit _ _ _ listed commit reads,
       (subst (λ (es : List (List ℕ × LiveSegment)). AreGoodFiles s (all_required es)) segments reads.good, tt),
     )
+
+pub returns-in_err-readers-clause-images : goal.returns-in_err-readers-clause-images
+returns-in_err-readers-clause-images g c t = keeps_then (c.read_commit.ensures.images t) (c.read_segments.ensures.images t)
+
+pub returns-clause-images : goal.returns-clause-images
+returns-clause-images g c t = keeps_then (c.read_commit.ensures.images t) (c.read_segments.ensures.images t)

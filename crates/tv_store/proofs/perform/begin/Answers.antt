@@ -12,10 +12,12 @@ use Rattle.tv_store.specs.Actions.{taken_beside}
 use Rattle.tv_store.specs.Performing.{FilesHold}
 use Rattle.tv_store.specs.declared.action.Action.TheVariants as actions
 use Rattle.tv_store.specs.declared.action.Reply.TheVariants as replies
+use Rattle.tv_formats.proofs.Results.{no_answer}
+use Rattle.tv_store.proofs.DurableFiles.{begun_stored}
 use Rattle.tv_store.proofs.perform.begin.Goals as goal
 
-pub returns : goal.returns
-returns g c =
+pub returns-clause-performs : goal.returns-clause-performs
+returns-clause-performs g c =
     let D = g.O.Directory in
     let old = c.args.files.now in
     let new = c.collect_begin.new.self in
@@ -40,8 +42,8 @@ returns g c =
     (λ bound short. short_same bound 0 old.open_files new.open_files (ap (λ v. v.open_files) frame.rest) short) (omega (arith, ap (λ (k : Collections). k.next) told.collections))
     (record { quiet = faults.quiet; free = λ locks takes. faults.free locks; fits = faults.fits; cause = tt }) form refl frame.below
 
-pub returns-in_err-collect_begin : goal.returns-in_err-collect_begin
-returns-in_err-collect_begin g c =
+pub returns-in_err-collect_begin-clause-performs : goal.returns-in_err-collect_begin-clause-performs
+returns-in_err-collect_begin-clause-performs g c =
     let D = g.O.Directory in
     let old = c.args.files.now in
     let new = c.collect_begin.new.self in
@@ -51,3 +53,11 @@ returns-in_err-collect_begin g c =
     (on_read D (actions.Begin c.args.living) old new _ tt tt (λ bound short. short_same bound 0 old.open_files new.open_files (ap (λ v. v.open_files) frame.rest) short) tt
     (record { quiet = tt; free = λ locks takes. tt; fits = tt; cause = locking_as _ _ (λ b. (tt, b)) (λ spent. spent) c.in_err-collect_begin.field-0.0 c.in_err-collect_begin.ensures.faults.cause })
     (ap (λ v. v.form) frame.rest) refl frame.below)
+
+pub returns-in_err-collect_begin-clause-images : goal.returns-in_err-collect_begin-clause-images
+returns-in_err-collect_begin-clause-images g c tells s h whole suits can d =
+    begun_stored g.O.Directory c.args.files.now s (g.met.O.Directory.stands c.args.files.now.outside tells) h d c.args.living c.collect_begin.new.self c.collect_begin.result c.from_residual.result (ap (λ v. v.form) c.collect_begin.ensures.frame.rest) (c.collect_begin.ensures.safe tells) (no_answer c.from_residual.result _ c.from_residual.ensures.0)
+
+pub returns-clause-images : goal.returns-clause-images
+returns-clause-images g c tells s h whole suits can d =
+    begun_stored g.O.Directory c.args.files.now s (g.met.O.Directory.stands c.args.files.now.outside tells) h d c.args.living c.collect_begin.new.self c.collect_begin.result (Ok replies.Done) (ap (λ v. v.form) c.collect_begin.ensures.frame.rest) (c.collect_begin.ensures.safe tells) refl

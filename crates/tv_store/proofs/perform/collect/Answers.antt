@@ -14,10 +14,13 @@ use Rattle.tv_store.specs.Kept.{CollectedNames}
 use Rattle.tv_store.specs.Performing.{FilesHold}
 use Rattle.tv_store.specs.declared.action.Action.TheVariants as actions
 use Rattle.tv_store.specs.declared.action.Reply.TheVariants as replies
+use Rattle.tv_formats.proofs.Results.{no_answer, no_ok}
+use Rattle.tv_store.specs.Kept.{names_below}
+use Rattle.tv_store.proofs.DurableCollections.{collected_stored, deleted_keeps, done_spares}
 use Rattle.tv_store.proofs.perform.collect.Goals as goal
 
-pub returns : goal.returns
-returns g c =
+pub returns-clause-performs : goal.returns-clause-performs
+returns-clause-performs g c =
     let D = g.O.Directory in
     let old = c.args.files.now in
     let new = c.collect.new.self in
@@ -55,8 +58,8 @@ returns g c =
     (record { quiet = faults.quiet; free = λ locks takes. faults.free locks; fits = faults.fits; cause = tt }) frame.form
     (kept_by_deletes D.told action (D.view old.outside) (D.view new.outside) tt frame.below.watched frame.below) (λ only. absurd only)
 
-pub returns-in_err-collected : goal.returns-in_err-collected
-returns-in_err-collected g c =
+pub returns-in_err-collected-clause-performs : goal.returns-in_err-collected-clause-performs
+returns-in_err-collected-clause-performs g c =
     let D = g.O.Directory in
     let old = c.args.files.now in
     let new = c.collect.new.self in
@@ -68,3 +71,14 @@ returns-in_err-collected g c =
     (λ bound short. short_same bound 0 new.open_files new.open_files refl (c.collect.ensures.lens bound short)) tt
     (record { quiet = tt; free = λ locks takes. tt; fits = tt; cause = locking_as _ _ (λ b. (tt, b)) (λ spent. spent) c.in_err-collected.field-0.0 c.in_err-collected.ensures.faults.cause }) frame.form
     (kept_by_deletes D.told action (D.view old.outside) (D.view new.outside) tt frame.below.watched frame.below) (λ only. absurd only))
+
+pub returns-clause-images : goal.returns-clause-images
+returns-clause-images g c tells s h whole suits can d =
+    let names = map string_bytes c.args.living.keys in
+    let told = c.in_ok-collected.ensures.collects in
+    collected_stored g.O.Directory c.args.files.now s (g.met.O.Directory.stands c.args.files.now.outside tells) h d c.args.living names c.collect.new.self _ (Ok (replies.Collected c.in_ok-collected.collected)) suits c.collect.ensures.frame.form (c.in_ok-collected.ensures.safe tells) (λ P h. h)
+    (deleted_keeps s _ (λ n needed. done_spares _ names (names_below c.args.files.now).1 told.tried.outcomes _ n refl told.tried.deleted_is (suits n ∙ needed)))
+
+pub returns-in_err-collected-clause-images : goal.returns-in_err-collected-clause-images
+returns-in_err-collected-clause-images g c tells s h whole suits can d =
+    collected_stored g.O.Directory c.args.files.now s (g.met.O.Directory.stands c.args.files.now.outside tells) h d c.args.living (map string_bytes c.args.living.keys) c.collect.new.self c.collect.result c.from_residual.result suits c.collect.ensures.frame.form (c.collect.ensures.safe tells) (λ P _. no_ok P c.from_residual.result c.from_residual.ensures.0) (no_answer c.from_residual.result _ c.from_residual.ensures.0)

@@ -10,10 +10,13 @@ use Rattle.tv_store.specs.Actions.{after_end}
 use Rattle.tv_store.specs.Performing.{FilesHold}
 use Rattle.tv_store.specs.declared.action.Action.TheVariants as actions
 use Rattle.tv_store.specs.declared.action.Reply.TheVariants as replies
+use Rattle.tv_formats.proofs.Options.{some_value}
+use Rattle.tv_formats.proofs.Results.{no_answer, no_ok}
+use Rattle.tv_store.proofs.DurableCollections.{ended_keeps, ended_stored}
 use Rattle.tv_store.proofs.perform.end.Goals as goal
 
-pub returns : goal.returns
-returns g c =
+pub returns-clause-performs : goal.returns-clause-performs
+returns-clause-performs g c =
     let D = g.O.Directory in
     let old = c.args.files.now in
     let new = c.collect_end.new.self in
@@ -33,3 +36,13 @@ returns g c =
     (λ bound short. short_same bound 0 old.open_files new.open_files (ap (λ v. v.open_files) done.frame.rest) short) (omega (arith, ap (λ v. v.next) told.collections))
     (plain_faults D (actions.End c.args.number) old new (Ok replies.Done) (search rules) (λ spent. spent) (λ takes. takes)) form
     (kept_by D.told _ (D.view old.outside) (D.view new.outside) done.frame.below.watched done.frame.below) (λ only. absurd only)
+
+pub returns-clause-images : goal.returns-clause-images
+returns-clause-images g c tells s h whole suits can d =
+    let it = some_value _ c.requires in
+    ended_stored g.O.Directory c.args.files.now s (g.met.O.Directory.stands c.args.files.now.outside tells) h d c.args.number it.0 c.collect_end.new.self _ (Ok replies.Done) it.1 (ap (λ v. v.form) c.collect_end.ensures.frame.rest) (c.in_ok-collect_end.ensures.safe tells) (λ P h. h) (ended_keeps s c.args.number (collection_at s.collections c.args.number))
+
+pub returns-in_err-collect_end-clause-images : goal.returns-in_err-collect_end-clause-images
+returns-in_err-collect_end-clause-images g c tells s h whole suits can d =
+    let it = some_value _ c.requires in
+    ended_stored g.O.Directory c.args.files.now s (g.met.O.Directory.stands c.args.files.now.outside tells) h d c.args.number it.0 c.collect_end.new.self c.collect_end.result c.from_residual.result it.1 (ap (λ v. v.form) c.collect_end.ensures.frame.rest) (c.collect_end.ensures.safe tells) (λ P _. no_ok P c.from_residual.result c.from_residual.ensures.0) (no_answer c.from_residual.result _ c.from_residual.ensures.0)

@@ -15,6 +15,7 @@ use Rattle.tv_store.proofs.ValidatedFiles.{report, report_damaged, shorter, shor
 use Rattle.tv_store.specs.FileCalls.{intact_in}
 use Rattle.tv_store.specs.Kept.{kept_of}
 use Rattle.tv_store.specs.Performing.{FilesHold}
+use Rattle.tv_managed.specs.TrackLaws.{keeps_then}
 use Rattle.tv_store.proofs.perform.find_damaged.Goals as goal
 
 pub loop-name-preserved : goal.loop-name-preserved
@@ -43,6 +44,7 @@ loop-name-preserved g c =
       short = subst (λ (ds : List (List ℕ)). words_len ds + words_len rest ≤ words_len c.args.names.items) (sym more) (shorter damaged rest c.args.names.items name small);
       room = first_of (search rules, grind (arith, common_steps));
       frame = first_of (search rules, grind (arith, common_steps));
+      images = λ t. keeps_then (so_far.images t) (c.in_ok-is_intact.ensures.images t);
       quiet = first_of (search rules, grind (arith, common_steps));
     }
 
@@ -52,3 +54,23 @@ returns-clause-gives g c =
     let damaged = c.loop-name.damaged.items in
     let none : into_iter_items c.loop-name.name-iterator ≡ [] = nil_from_length (into_iter_items c.loop-name.name-iterator) (omega (arith, c.in-None.ensures.steps.0)) in
     inl (damaged, short_line damaged c.args.names.items (subst (λ (ns : List (List ℕ)). words_len damaged + words_len ns ≤ words_len c.args.names.items) none so_far.short), refl)
+
+pub returns-in_err-is_intact-clause-images : goal.returns-in_err-is_intact-clause-images
+returns-in_err-is_intact-clause-images g c t = keeps_then (c.loop-name.invariant.images t) (c.in_err-is_intact.ensures.images t)
+
+pub returns-clause-images : goal.returns-clause-images
+returns-clause-images g c t = c.loop-name.invariant.images t
+
+pub loop-name-preserved-then-this : goal.loop-name-preserved-then-this
+loop-name-preserved-then-this g c = record {
+  next = tt;
+  finite = tt;
+  found = first_of (search rules, grind (arith, common_steps));
+  each = first_of (search rules, grind (arith, common_steps));
+  among = first_of (search rules, grind (arith, common_steps));
+  short = first_of (search rules, grind (arith, common_steps));
+  room = first_of (search rules, grind (arith, common_steps));
+  frame = first_of (search rules, grind (arith, common_steps));
+  images = λ t. keeps_then (c.loop-name.invariant.images t) (c.in_ok-is_intact.ensures.images t);
+  quiet = first_of (search rules, grind (arith, common_steps));
+}

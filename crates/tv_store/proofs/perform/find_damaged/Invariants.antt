@@ -1,6 +1,7 @@
 use Rattle.std.proofs.Common.{◌≡◌, ◌≤◌, ◌+◌, List, [], ℕ, true, length, vec_capacity}
 use Rattle.std.specs.List.{AllByRecursion}
 use Rattle.std.specs.Vec.Iter.{into_iter_items}
+use Rattle.tv_device.specs.Images.{KeepsDisk}
 use Rattle.tv_device.specs.View.{OnlyReads}
 use Rattle.tv_formats.specs.Names.{has}
 use Rattle.tv_machine.specs.Index.{IsFileOf}
@@ -21,5 +22,6 @@ invariant-loop-name g l = record {
   short : words_len l.damaged.items + words_len (into_iter_items l.name-iterator) ≤ words_len l.fn.names.items;
   room : length l.damaged.items + length (into_iter_items l.name-iterator) ≤ vec_capacity l.damaged;
   frame : KeepsFiles (OnlyReads g.O.Directory.told) g.O.Directory.view l.initial.files l.files;
+  images : g.O.Directory.tells_images → KeepsDisk (g.O.Directory.disk l.initial.files.outside) (g.O.Directory.disk l.files.outside);
   quiet : (g.O.Directory.view l.files.outside).faults ≡ (g.O.Directory.view l.initial.files.outside).faults;
 }

@@ -10,6 +10,8 @@ use Rattle.tv_store.proofs.KeptFiles.{fails_after}
 use Rattle.tv_store.proofs.Saved.{has_behind, has_first, open_first, sealed_first, sealed_so}
 use Rattle.tv_store.specs.Actions.{first_open}
 use Rattle.tv_store.specs.Stays.{KeepsFiles}
+use Rattle.tv_device.specs.Images.{KeepsDisk}
+use Rattle.tv_managed.specs.TrackLaws.{keeps_then}
 use Rattle.tv_store.proofs.perform.first_unsealed.Goals as goal
 
 pub loop-name-preserved : goal.loop-name-preserved
@@ -31,6 +33,7 @@ loop-name-preserved g c =
       each = λ files. (subst (AllByRecursion IsFileOf) first (so_far.each files)).1;
       among = λ n there. so_far.among n (has_behind name n names rest first there);
       frame = subst (λ f. KeepsFiles (OnlyReads g.O.Directory.told) g.O.Directory.view c.args.files.now f) (sym c.remember.ensures) (files_then reads_then so_far.frame asked.frame);
+      images = λ t. subst (λ f. KeepsDisk (g.O.Directory.disk c.args.files.now.outside) (g.O.Directory.disk f.outside)) (sym c.remember.ensures) (keeps_then (so_far.images t) (asked.images t));
       quiet = ap (λ f. (g.O.Directory.view f.outside).faults) c.remember.ensures ∙ asked.faults.quiet ∙ so_far.quiet;
     }
 
@@ -74,3 +77,12 @@ returns-clause-faults g c = record { quiet = c.loop-name.invariant.quiet; fits =
 
 pub returns-clause-frame : goal.returns-clause-frame
 returns-clause-frame g c = c.loop-name.invariant.frame
+
+pub returns-then-not-branch-clause-images : goal.returns-then-not-branch-clause-images
+returns-then-not-branch-clause-images g c t = keeps_then (c.loop-name.invariant.images t) (c.in_ok-is_sealed.ensures.images t)
+
+pub returns-in_err-is_sealed-clause-images : goal.returns-in_err-is_sealed-clause-images
+returns-in_err-is_sealed-clause-images g c t = keeps_then (c.loop-name.invariant.images t) (c.in_err-is_sealed.ensures.images t)
+
+pub returns-clause-images : goal.returns-clause-images
+returns-clause-images g c t = c.loop-name.invariant.images t

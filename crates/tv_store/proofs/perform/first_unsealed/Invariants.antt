@@ -1,6 +1,7 @@
 use Rattle.std.proofs.Common.{◌≡◌, List, ℕ, true}
 use Rattle.std.specs.List.{AllByRecursion}
 use Rattle.std.specs.Vec.Iter.{into_iter_items}
+use Rattle.tv_device.specs.Images.{KeepsDisk}
 use Rattle.tv_device.specs.View.{OnlyReads}
 use Rattle.tv_formats.specs.Names.{has}
 use Rattle.tv_machine.specs.Index.{IsFileOf}
@@ -18,5 +19,6 @@ invariant-loop-name g l = record {
   each : AllByRecursion IsFileOf l.fn.names.items → AllByRecursion IsFileOf (into_iter_items l.name-iterator);
   among : (n : List ℕ) → has (into_iter_items l.name-iterator) n ≡ true → has l.fn.names.items n ≡ true;
   frame : KeepsFiles (OnlyReads g.O.Directory.told) g.O.Directory.view l.initial.files l.files;
+  images : g.O.Directory.tells_images → KeepsDisk (g.O.Directory.disk l.initial.files.outside) (g.O.Directory.disk l.files.outside);
   quiet : (g.O.Directory.view l.files.outside).faults ≡ (g.O.Directory.view l.initial.files.outside).faults;
 }

@@ -1,8 +1,12 @@
-use Rattle.std.proofs.Common.{rules, ◌≡◌, ◌≤◌, ◌<◌, ◌++◌, ◌∷◌, [], ℕ, List, codes, decimal, inl, length, refl, sym, ap, subst, vec_capacity, ◌∙◌}
+use Rattle.std.proofs.Common.{rules, true, ◌≡◌, ◌≤◌, ◌<◌, ◌++◌, ◌∷◌, [], ℕ, List, codes, decimal, inl, length, refl, sym, ap, subst, vec_capacity, ◌∙◌}
+use Rattle.std.specs.Prelude.{◌&&◌, nat_lt}
 use Rattle.std.specs.List.{AllByRecursion}
 use Rattle.tv_machine.specs.Index.{IsFileOf}
 use Rattle.tv_formats.specs.Commits.{Commit, IsSegment, Settings, printed}
-use Rattle.tv_formats.specs.Segments.{all_required}
+use Rattle.tv_formats.specs.Names.{has}
+use Rattle.tv_formats.specs.Segments.{all_required, num_docs}
+use Rattle.tv_formats.specs.declared.segment.LiveSegment.{LiveSegment}
+use Rattle.tv_formats.proofs.Required.{required_some}
 use Rattle.tv_machine.specs.CommitEvents.{chosen, first_unknown, last_stamp}
 use Rattle.tv_machine.specs.Lines.{line}
 use Rattle.tv_machine.specs.State.{Catalog}
@@ -48,6 +52,9 @@ returns g c = λ ids known are.
         next = c.requires.next;
         files = files;
         each = subst (λ (ns : List (List ℕ)). AllByRecursion IsFileOf ns) (sym (files ∙ ap all_required same)) (all_required_are_files segments c.requires.sound);
+        live = λ n named.
+            required_some (λ e. has ids e.0 && nat_lt 0 (num_docs e.1)) catalog.live n
+            (subst (λ (es : List (List ℕ × LiveSegment)). has (all_required es) n ≡ true) (same ∙ are) named);
       };
       change = tt;
       segments = λ s m reply. subst (AllByRecursion IsSegment) (sym (save_keeps s commit c.in_ok-text.text required reply)) m.segments;

@@ -13,6 +13,8 @@ use Rattle.tv_store.specs.OpenFiles.{AreThere}
 use Rattle.tv_store.proofs.KnownFiles.{left_there, none_there}
 use Rattle.tv_store.proofs.Listings.{undotted_isnt_list}
 use Rattle.tv_store.proofs.OpenFiles.{AreOpen, bodies, same_open}
+use Rattle.tv_formats.proofs.Results.{no_ok}
+use Rattle.tv_store.proofs.FileStates.{collected_below, collected_none}
 use Rattle.tv_store.proofs.files.StoreFiles.collect.Goals as goal
 
 pub file_names-deleted-requires-clause-room : goal.file_names-deleted-requires-clause-room
@@ -116,3 +118,19 @@ pub returns-in_err-result-clause-faults : goal.returns-in_err-result-clause-faul
 returns-in_err-result-clause-faults g c =
     gc_fails g.O.Directory _ c.args.self.now.outside c.garbage_collect.new.self.0 c.from_residual-in_err-result.result c.in_err-result.field-0.0 c.from_residual-in_err-result.ensures.1
     (gc_faults g.O.Directory c.args.self.now c.directory_mut.result.now c.garbage_collect.new.self _ (c.directory_mut.ensures.value ∙ ap names_below c.self.view_is) c.in_err-result.ensures.faults)
+
+pub returns-in_err-deleted-clause-safe : goal.returns-in_err-deleted-clause-safe
+returns-in_err-deleted-clause-safe g c tells = collected_none g.O.Directory _ _ _
+
+pub returns-in_err-failed-clause-safe : goal.returns-in_err-failed-clause-safe
+returns-in_err-failed-clause-safe g c tells = collected_none g.O.Directory _ _ _
+
+pub returns-in_err-result-clause-safe : goal.returns-in_err-result-clause-safe
+returns-in_err-result-clause-safe g c tells =
+    let left = c.garbage_collect.ensures.collects in
+    collected_below g.O.Directory (map string_bytes c.args.living.keys) c.args.self.now _ _ _ left.0 c.directory_mut.result.now c.garbage_collect.result c.from_residual-in_err-result.result (c.directory_mut.ensures.value ∙ ap names_below c.self.view_is) (λ set answer. search) (λ P _. no_ok P c.from_residual-in_err-result.result c.from_residual-in_err-result.ensures.0) tells left.1 left.2
+
+pub returns-clause-safe : goal.returns-clause-safe
+returns-clause-safe g c tells =
+    let left = c.in_ok-result.ensures.collects in
+    collected_below g.O.Directory (map string_bytes c.args.living.keys) c.args.self.now _ _ _ left.0 c.directory_mut.result.now _ _ (c.directory_mut.ensures.value ∙ ap names_below c.self.view_is) (λ set answer. search) (λ P h. h) tells left.1 left.2

@@ -11,6 +11,8 @@ use Rattle.tv_store.specs.OpenFiles.{AreThere}
 use Rattle.tv_store.proofs.KnownFiles.{left_there, same_there, still_there}
 use Rattle.tv_store.proofs.OpenFiles.{AreOpen}
 use Rattle.tv_store.proofs.Removals.{bodies_gone, collected_open, contains_itself, lens_left, one_out}
+use Rattle.tv_managed.specs.Collecting.{is_done}
+use Rattle.tv_store.proofs.FileStates.{tried_below, untried_below}
 use Rattle.tv_store.proofs.files.StoreFiles.collect_delete.Goals as goal
 
 pub new-name-requires : goal.new-name-requires
@@ -80,3 +82,12 @@ returns-in-Failed-clause-dotted g c tells n dot other =
 
 pub returns-in-Done-clause-lens : goal.returns-in-Done-clause-lens
 returns-in-Done-clause-lens g c bound h = lens_left (λ w. (g.O.Directory.state_of w).written) c.self.inside.files.entries c.remove_one.new.map.entries c.args.self.now.open_files bound (ap (λ v. v.open_files) c.self.view_is) c.remove_one.ensures.left h
+
+pub returns-in-Done-clause-safe : goal.returns-in-Done-clause-safe
+returns-in-Done-clause-safe g c tells = tried_below g.O.Directory (c.directory_mut.ensures.value ∙ ap names_below c.self.view_is) c.args.number is_done _ _ _ (ap is_done c.in-Done.is) (c.in_ok-text.ensures.safe tells)
+
+pub returns-in-Failed-clause-safe : goal.returns-in-Failed-clause-safe
+returns-in-Failed-clause-safe g c tells = tried_below g.O.Directory (c.directory_mut.ensures.value ∙ ap names_below c.self.view_is) c.args.number is_done _ _ _ (ap is_done c.in-Failed.is) (c.in_ok-text.ensures.safe tells)
+
+pub returns-in_err-text-clause-safe : goal.returns-in_err-text-clause-safe
+returns-in_err-text-clause-safe g c tells = untried_below g.O.Directory (c.directory_mut.ensures.value ∙ ap names_below c.self.view_is) c.args.number is_done _ _ c.from_residual.result c.from_residual.ensures.0 (c.in_err-text.ensures.safe tells)

@@ -9,6 +9,9 @@ use Rattle.tv_store.proofs.CollectingFiles.{end_cause, end_spares, ends_so}
 use Rattle.tv_store.specs.OpenFiles.{AreThere}
 use Rattle.tv_store.proofs.KnownFiles.{beside_list, still_there}
 use Rattle.tv_store.proofs.OpenFiles.{still_open, AreOpen}
+use Rattle.std.proofs.Common.{Ok}
+use Rattle.tv_formats.proofs.Results.{no_ok}
+use Rattle.tv_store.proofs.FileStates.{ended_below}
 use Rattle.tv_store.proofs.files.StoreFiles.collect_end.Goals as goal
 
 pub returns-in_err-_result-clause-faults : goal.returns-in_err-_result-clause-faults
@@ -35,3 +38,9 @@ invariant_of-self-2 g c = (
 pub returns-clause-ends : goal.returns-clause-ends
 returns-clause-ends g c =
     ends_so g.O.Directory c.args.number c.args.self.now c.directory_mut.result.now (c.directory_mut.ensures.value ∙ ap names_below c.self.view_is) c.requires (sym (ap (λ v. has (held v.collections) meta_name) c.self.view_is) ∙ c.self.invariant.1) _ _ c.in_ok-_result.ensures.ends
+
+pub returns-in_err-_result-clause-safe : goal.returns-in_err-_result-clause-safe
+returns-in_err-_result-clause-safe g c tells = ended_below g.O.Directory (c.directory_mut.ensures.value ∙ ap names_below c.self.view_is) c.args.number c.collect_end.result c.from_residual.result (λ P _. no_ok P c.from_residual.result c.from_residual.ensures.0) (c.collect_end.ensures.safe tells)
+
+pub returns-clause-safe : goal.returns-clause-safe
+returns-clause-safe g c tells = ended_below g.O.Directory (c.directory_mut.ensures.value ∙ ap names_below c.self.view_is) c.args.number _ (Ok tt) (λ P h. h) (c.in_ok-_result.ensures.safe tells)

@@ -6,6 +6,8 @@ use Rattle.tv_store.proofs.OpenFiles.{still_files, is_open, known_answer, open_a
 use Rattle.tv_store.proofs.Removals.{had}
 use Rattle.tv_device.specs.View.{OnlyReads}
 use Rattle.tv_store.proofs.KeptFiles.{kept_files}
+use Rattle.tv_store.specs.Kept.{names_below}
+use Rattle.tv_store.proofs.FileStates.{disk_same, read_below}
 use Rattle.tv_store.proofs.files.StoreFiles.is_sealed.Goals as goal
 use Rattle.tv_store.proofs.files.StoreFiles.is_sealed.Goals.{then-contains_key-via-then-contains_key, then-contains_key-via-else-contains_key+then-contains}
 
@@ -52,3 +54,18 @@ returns-in-Err-IoError-clause-frame g c = kept_files (OnlyReads g.O.Directory.to
 
 pub returns-in-Err-Memory-clause-frame : goal.returns-in-Err-Memory-clause-frame
 returns-in-Err-Memory-clause-frame g c = kept_files (OnlyReads g.O.Directory.told) g.O.Directory.view _ _ _ _ _ _ _ c.directory_mut.ensures.value c.self.view_is c.exists.ensures.frame
+
+pub returns-then-contains_key-clause-images : goal.returns-then-contains_key-clause-images
+returns-then-contains_key-clause-images g c tells = disk_same _
+
+pub returns-then-contains-2-clause-images : goal.returns-then-contains-2-clause-images
+returns-then-contains-2-clause-images g c tells = disk_same _
+
+pub returns-in-Ok-clause-images : goal.returns-in-Ok-clause-images
+returns-in-Ok-clause-images g c tells = read_below g.O.Directory (c.directory_mut.ensures.value ∙ ap names_below c.self.view_is) (c.exists.ensures.images tells)
+
+pub returns-in-Err-Memory-clause-images : goal.returns-in-Err-Memory-clause-images
+returns-in-Err-Memory-clause-images g c tells = read_below g.O.Directory (c.directory_mut.ensures.value ∙ ap names_below c.self.view_is) (c.exists.ensures.images tells)
+
+pub returns-in-Err-IoError-clause-images : goal.returns-in-Err-IoError-clause-images
+returns-in-Err-IoError-clause-images g c tells = read_below g.O.Directory (c.directory_mut.ensures.value ∙ ap names_below c.self.view_is) (c.exists.ensures.images tells)

@@ -8,6 +8,7 @@ use Rattle.tv_store.proofs.NewFiles.{failed_then, found_faults, found_so, made_s
 use Rattle.tv_store.proofs.KnownFiles.{created_there}
 use Rattle.tv_store.proofs.Removals.{one_forgotten}
 use Rattle.tv_store.proofs.OpenFiles.{still_files, put_files, same_files, kept_collections, new_open, bodies, bodies_put}
+use Rattle.tv_store.proofs.FileStates.{opened_below}
 use Rattle.tv_store.proofs.files.StoreFiles.open.Goals as goal
 
 pub invariant_of-self : goal.invariant_of-self
@@ -101,3 +102,15 @@ pub returns-clause-frame : goal.returns-clause-frame
 returns-clause-frame g c =
     kept_made (Kept g.O.Directory.told) g.O.Directory.view _ _ _ _ c.directory_mut.result.now c.open_write-opened.new.self _ c.directory_mut.ensures.value c.self.view_is _
     (kept_collections g.O.Directory c.directory_mut.result.now c.open_write-opened.new.self c.as_str.result.now _ c.open_write-opened.ensures.manages) c.open_write-opened.ensures.frame
+
+pub returns-in_err-writer-clause-safe : goal.returns-in_err-writer-clause-safe
+returns-in_err-writer-clause-safe g c tells = opened_below g.O.Directory (c.directory_mut.ensures.value ∙ ap names_below c.self.view_is) c.open_write-opened.result c.as_str.ensures.text (c.open_write-opened.ensures.safe tells)
+
+pub returns-in_default-clause-safe : goal.returns-in_default-clause-safe
+returns-in_default-clause-safe g c tells = opened_below g.O.Directory (c.directory_mut.ensures.value ∙ ap names_below c.self.view_is) c.open_write-opened.result c.as_str.ensures.text (c.open_write-opened.ensures.safe tells)
+
+pub returns-in_err-insert-clause-safe : goal.returns-in_err-insert-clause-safe
+returns-in_err-insert-clause-safe g c tells = opened_below g.O.Directory (c.directory_mut.ensures.value ∙ ap names_below c.self.view_is) c.open_write-opened.result c.as_str.ensures.text (c.open_write-opened.ensures.safe tells)
+
+pub returns-clause-safe : goal.returns-clause-safe
+returns-clause-safe g c tells = opened_below g.O.Directory (c.directory_mut.ensures.value ∙ ap names_below c.self.view_is) c.open_write-opened.result c.as_str.ensures.text (c.open_write-opened.ensures.safe tells)

@@ -3,6 +3,10 @@ use Rattle.tv_device.specs.View.{Kept}
 use Rattle.tv_store.proofs.KeptFiles.{io_fails, kept_managed}
 use Rattle.tv_store.proofs.KnownFiles.{beside_there, may_know, sealed_there}
 use Rattle.tv_store.proofs.OpenFiles.{still_files, left_files, with_known, there_is, found_open, must_be_open, same_body_is, isnt_open, bodies_left, others_kept, sealed_is, AreFiles}
+use Rattle.std.proofs.Common.{Ok}
+use Rattle.tv_store.specs.Kept.{names_below}
+use Rattle.tv_formats.proofs.Results.{no_ok}
+use Rattle.tv_store.proofs.FileStates.{isnt_list_name, sealed_below}
 use Rattle.tv_store.proofs.files.StoreFiles.seal.Goals as goal
 
 pub unreachable-requires : goal.unreachable-requires
@@ -80,3 +84,17 @@ returns-clause-rest g c =
       faults = record { quiet = c.in_ok-terminate.ensures.faults.quiet ∙ ap (λ d. (D.view d.0).faults) c.directory_mut.ensures.value ∙ ap (λ v. (D.view v.outside).faults) c.self.view_is; fits = λ never. never; cause = tt };
       frame = kept_managed (Kept D.told) D.view _ _ _ _ c.directory_mut.result.now c.terminate.new.self _ c.directory_mut.ensures.value c.self.view_is _ c.terminate.ensures.frame;
     }
+
+pub returns-in_err-terminate-clause-safe : goal.returns-in_err-terminate-clause-safe
+returns-in_err-terminate-clause-safe g c tells body there =
+    let D = g.O.Directory in
+    let file = found_open D c.directory_mut.result.now.0 c.self.inside.files.entries c.args.name c.in-Some.file c.in-Some.ensures.value (subst (λ d. AreFiles D d c.self.inside.files.entries c.self.inside.known.keys) (sym c.directory_mut.ensures.value) c.self.invariant).0 in
+    let body_is = same_body_is (λ w. (D.state_of w).written) c.self.inside.files.entries c.args.self.now.open_files c.args.name c.in-Some.file body (ap (λ v. v.open_files) c.self.view_is) c.in-Some.ensures.value there in
+    sealed_below D (c.directory_mut.ensures.value ∙ ap names_below c.self.view_is) c.in-Some.file.writer _ c.from_residual.result file.name_is (sym body_is) (file.lives_is (g.met.O.Directory.tells_more tells)) file.summed_is (λ P _. no_ok P c.from_residual.result c.from_residual.ensures.0) (c.in_err-terminate.ensures.safe tells (λ is. isnt_list_name c.args.name c.requires.file (sym file.name_is ∙ is)))
+
+pub returns-clause-safe : goal.returns-clause-safe
+returns-clause-safe g c tells body there =
+    let D = g.O.Directory in
+    let file = found_open D c.directory_mut.result.now.0 c.self.inside.files.entries c.args.name c.in-Some.file c.in-Some.ensures.value (subst (λ d. AreFiles D d c.self.inside.files.entries c.self.inside.known.keys) (sym c.directory_mut.ensures.value) c.self.invariant).0 in
+    let body_is = same_body_is (λ w. (D.state_of w).written) c.self.inside.files.entries c.args.self.now.open_files c.args.name c.in-Some.file body (ap (λ v. v.open_files) c.self.view_is) c.in-Some.ensures.value there in
+    sealed_below D (c.directory_mut.ensures.value ∙ ap names_below c.self.view_is) c.in-Some.file.writer _ (Ok tt) file.name_is (sym body_is) (file.lives_is (g.met.O.Directory.tells_more tells)) file.summed_is (λ P h. h) (c.in_ok-terminate.ensures.safe tells (λ is. isnt_list_name c.args.name c.requires.file (sym file.name_is ∙ is)))

@@ -4,6 +4,8 @@ use Rattle.std.specs.Map.{remove_entry}
 use Rattle.tv_formats.specs.Names.{byte_cmp}
 use Rattle.tv_store.proofs.KnownFiles.{beside_there}
 use Rattle.tv_store.proofs.OpenFiles.{still_files, left_files, found_open, set_open, with_open, written_open, must_be_open, body_is, same_body_is, bodies_set, bodies_left, cut_set, longer_fits, others_kept, there_is, more_is, AreFiles}
+use Rattle.tv_managed.specs.Crashes.{ReadsSafely}
+use Rattle.tv_store.specs.Kept.{names_below}
 use Rattle.tv_store.proofs.files.StoreFiles.write.Goals as goal
 
 pub unreachable-requires : goal.unreachable-requires
@@ -77,3 +79,9 @@ pub returns-in-Err-clause-others : goal.returns-in-Err-clause-others
 returns-in-Err-clause-others g c tells =
     let file = found_open g.O.Directory c.directory_mut.result.now.0 c.self.inside.files.entries c.args.name.now c.in-Some.file.now c.in-Some.ensures.value (subst (λ d. AreFiles g.O.Directory d c.self.inside.files.entries c.self.inside.known.keys) (sym c.directory_mut.ensures.value) c.self.invariant).0 in
     others_kept (λ d. (g.O.Directory.view d).reads) c.directory_mut.result.now.0 c.args.self.now.outside c.write.new.self.0 (g.O.Directory.state_of c.in-Some.file.now.writer.writer).name c.args.name.now (ap (λ d. d.0) c.directory_mut.ensures.value ∙ ap (λ v. v.outside) c.self.view_is) file.name_is (c.write.ensures.touches.others tells)
+
+pub returns-in-Ok-clause-safe : goal.returns-in-Ok-clause-safe
+returns-in-Ok-clause-safe g c tells = subst (λ d. ReadsSafely g.O.Directory d c.write.new.self) (c.directory_mut.ensures.value ∙ ap names_below c.self.view_is) (c.write.ensures.safe tells)
+
+pub returns-in-Err-clause-safe : goal.returns-in-Err-clause-safe
+returns-in-Err-clause-safe g c tells = subst (λ d. ReadsSafely g.O.Directory d c.write.new.self) (c.directory_mut.ensures.value ∙ ap names_below c.self.view_is) (c.write.ensures.safe tells)

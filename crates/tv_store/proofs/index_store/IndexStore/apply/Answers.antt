@@ -7,6 +7,9 @@ use Rattle.tv_formats.specs.Files.{Rose}
 use Rattle.tv_machine.specs.Machine.{catalog_step}
 use Rattle.tv_store.specs.Acting.{Acts}
 use Rattle.tv_store.specs.Applying.{AsksNoFile}
+use Rattle.tv_store.proofs.AppliedSafely.{failed_survives, io_isnt_memory, told_survives, untold_survives}
+use Rattle.tv_store.specs.Durable.{ActsSafely, IsDurable, store_files}
+use Rattle.tv_store.specs.Kept.{IsHeld}
 use Rattle.tv_store.proofs.Applied.{closed, frame_failed, frame_tried, grows_failed, faults_failed, grows_told, tells_untold, grows_untold, undisturbed, leaves_untold, step_told}
 use Rattle.tv_store.proofs.index_store.IndexStore.apply.Goals as goal
 
@@ -93,3 +96,34 @@ returns-clause-frame g c =
     let alone = subst (λ v. IsSome (catalog_step v.kept.catalog v.kept.managed event) → AsksNoFile (OnlyReads D.told) D (closed v) c.act.new.self (Ok c.in_ok-answer.answer)) c.self.view_is c.in_ok-answer.ensures.alone in
     let did = c.in_ok-tell.ensures in
     frame_tried D c.args.self.now c.act.new.self event (Ok c.in_ok-answer.answer) acted alone c.tell.new.self (Ok c.in_ok-answer.answer) did.kept did.open did.frame tt
+
+pub returns-in_err-answer-clause-survives : goal.returns-in_err-answer-clause-survives
+returns-in_err-answer-clause-survives g c tells heard s h whole durable =
+    let D = g.O.Directory in
+    let event = c.args.event.now in
+    let acted = subst (λ v. Acts D (closed v) c.act.new.self event (Err c.in_err-answer.field-0.0)) c.self.view_is c.in_err-answer.ensures.acts in
+    let safe = subst (λ v. IsHeld D v s → IsDurable D (store_files v) s → ActsSafely D (closed v) c.act.new.self event s (Err c.in_err-answer.field-0.0)) c.self.view_is (λ held d. c.in_err-answer.ensures.images tells s held whole d) h durable in
+    let e = err_from_is_err_and c.from_residual.result c.from_residual.ensures.1 in
+    rw (e.1, e.2) (failed_survives D c.args.self.now c.act.new.self event s c.in_err-answer.field-0.0 acted safe)
+
+pub returns-in_err-tell-clause-survives : goal.returns-in_err-tell-clause-survives
+returns-in_err-tell-clause-survives g c tells heard s h whole durable =
+    let D = g.O.Directory in
+    let event = c.args.event.now in
+    let did = c.in_err-tell.ensures in
+    let acted = subst (λ v. Acts D (closed v) c.act.new.self event (Ok c.in_ok-answer.answer)) c.self.view_is c.in_ok-answer.ensures.acts in
+    let safe = subst (λ v. IsHeld D v s → IsDurable D (store_files v) s → ActsSafely D (closed v) c.act.new.self event s (Ok c.in_ok-answer.answer)) c.self.view_is (λ held d. c.in_ok-answer.ensures.images tells s held whole d) h durable in
+    let fault = c.in_err-tell.field-0.0 in
+    let e = err_from_is_err_and c.from_residual-in_err-tell.result c.from_residual-in_err-tell.ensures.1 in
+    rw (e.1, e.2)
+    (untold_survives D c.args.self.now c.act.new.self event s c.tell.new.self c.in_ok-answer.answer acted safe did.kept did.frame (did.images tells) fault (errors.IoError fault) (io_isnt_memory fault) did.tells heard)
+
+pub returns-clause-survives : goal.returns-clause-survives
+returns-clause-survives g c tells heard s h whole durable =
+    let D = g.O.Directory in
+    let event = c.args.event.now in
+    let did = c.in_ok-tell.ensures in
+    let acted = subst (λ v. Acts D (closed v) c.act.new.self event (Ok c.in_ok-answer.answer)) c.self.view_is c.in_ok-answer.ensures.acts in
+    let safe = subst (λ v. IsHeld D v s → IsDurable D (store_files v) s → ActsSafely D (closed v) c.act.new.self event s (Ok c.in_ok-answer.answer)) c.self.view_is (λ held d. c.in_ok-answer.ensures.images tells s held whole d) h durable in
+    told_survives D c.args.self.now c.act.new.self event s c.tell.new.self c.in_ok-answer.answer acted safe did.kept did.frame (did.images tells) tt did.tells
+    (g.met.O.Directory.stands c.act.new.self.outside tells) (g.met.O.Directory.stands c.tell.new.self.outside tells) (g.met.O.Directory.tells_more tells) heard
