@@ -44,24 +44,25 @@ use Rattle.tv_replay.specs.declared.next_event.ScriptError.{ScriptError}
 use Rattle.tv_replay.specs.declared.next_event.ScriptError.TheVariants as failed
 use Rattle.tv_replay.specs.declared.lines.LineError.TheVariants as line
 use Rattle.tv_replay.specs.declared.replaying.Tally.{Tally}
-use Rattle.tv_store.specs.Kept.{KeptState, StoreState, FileHolds, Holds, AtMost}
+use Rattle.tv_catalog.specs.Kept.{KeptState}
+use Rattle.tv_store.specs.Kept.{StoreState, FileHolds, Holds, AtMost}
 use Rattle.tv_device.specs.declared.directory.Directory.{Ghosts}
 use Rattle.tv_store.specs.Opening.{Opens}
 use Rattle.tv_store.specs.Telling.{AreBetween, TellsLine, TellsLines}
 use Rattle.tv_replay.specs.ScriptLines.{pending, TakesNextEvent, IsNoEvent, IsTooLong}
-use Rattle.tv_store.specs.ReaderNumbers.{FewNumbers}
+use Rattle.tv_catalog.specs.ReaderNumbers.{FewNumbers}
 use Rattle.tv_index.specs.Opening.{NotesMade}
 use Rattle.tv_index.specs.Standing.{MetaCause, OfRead}
 use Rattle.tv_formats.specs.Meaning.{Means, MeansNothing, MeansOther}
 use Rattle.tv_formats.proofs.MeansOne.{means_no_other, means_something}
-use Rattle.tv_store.specs.Effects.{TakesMetaLock, after_each, length_after, numbers_after, written_by}
+use Rattle.tv_catalog.specs.Effects.{TakesMetaLock, after_each, length_after, numbers_after, written_by}
 use Rattle.tv_store.specs.ReadCauses.{ReadFault, LoadingCause, ReadFacts}
 use Rattle.tv_managed.specs.Collecting.{meta_lock_name}
 use Rattle.tv_replay.specs.ScriptCauses.{IsRefused, ScriptCause}
 use Rattle.tv_store.specs.StoreCauses.{WriteFault, IsRefusal}
 use Rattle.tv_replay.specs.Replays.{Replays, ReplayCause, StopsAtLine, LineRefusal, IsTooMany, TakesNoLock, line_refusal, long_refusal}
 use Rattle.tv_store.specs.Applying.{Stepped}
-use Rattle.tv_store.specs.Exhausted.{IsExhausted, PassesEnd, SomePassesEnd}
+use Rattle.tv_catalog.specs.Exhausted.{IsExhausted, PassesEnd, SomePassesEnd}
 use Rattle.tv_replay.specs.AppliedEvents.{Applies, Runs, RunFaults, Causes, RunCause, run_causes, FailsRun, EndCause, IsErrorOf}
 use Rattle.tv_replay.proofs.AppliedWhole.{EventSurvives, ReplayLeaves, none_applied, one_more_whole}
 use Rattle.tv_replay.proofs.LineLemmas.{pending_some}

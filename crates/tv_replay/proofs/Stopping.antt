@@ -26,7 +26,7 @@ use Rattle.tv_store.specs.Kept.{StoreState, Holds}
 use Rattle.tv_store.specs.Telling.{TellsLine, TellsNoLine}
 use Rattle.tv_store.specs.Applying.{LeavesCommit, LeavesOldOrNew, MeetsBadAt}
 use Rattle.tv_index.specs.Standing.{MetaCause, OfRead}
-use Rattle.tv_store.specs.Effects.{TakesMetaLock}
+use Rattle.tv_catalog.specs.Effects.{TakesMetaLock}
 use Rattle.tv_store.specs.ReadCauses.{LoadingCause, IsReadError, ReadFacts}
 use Rattle.tv_index.specs.Opening.{OpenCause}
 use Rattle.tv_store.specs.OpeningCauses.{CallFacts, IndexMissing, IndexRefused, OpeningCause}

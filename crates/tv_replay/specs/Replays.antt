@@ -30,7 +30,7 @@ use Rattle.tv_base.specs.declared.error.TantivyError.{TantivyError}
 use Rattle.tv_base.specs.declared.error.TantivyError.TheVariants as errors
 use Rattle.tv_replay.specs.declared.replaying.Tally.{Tally}
 use Rattle.tv_replay.specs.ScriptLines.{IsNoEvent, IsTooLong, IsAhead}
-use Rattle.tv_store.specs.Effects.{TakesMetaLock}
+use Rattle.tv_catalog.specs.Effects.{TakesMetaLock}
 use Rattle.tv_store.specs.ReadCauses.{ReadFault}
 use Rattle.tv_index.specs.Opening.{NotesMade, OpenCause}
 use Rattle.tv_store.specs.StoreCauses.{IsBusy, QuietBehind, RefusedBehind, WriteFault, writer_lock_name}

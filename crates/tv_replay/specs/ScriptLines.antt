@@ -4,7 +4,7 @@ use Rattle.tv_base.specs.Streams.{ReadsPiece, IsAtEnd}
 use Rattle.tv_machine.specs.declared.event.Event.{Event}
 use Rattle.tv_formats.specs.Files.{has_no_feed}
 use Rattle.tv_machine.specs.Script.{line_limit, lines_of, Fits, IsLine}
-use Rattle.tv_store.specs.Effects.{written_by}
+use Rattle.tv_catalog.specs.Effects.{written_by}
 
 -- what is held, and after it what is left, where that is told
 abbrev pub pending : List ℕ → Option (List ℕ) → Option (List ℕ)

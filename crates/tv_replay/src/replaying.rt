@@ -2,7 +2,7 @@
 ghost use Rattle.std.specs.Prelude.{◌≡◌, ◌≤◌, ◌+◌, ℕ, List, None, true, length, IfOk, IfErr, OnOk, string_bytes};
 ghost use Rattle.tv_machine.specs.Script.{line_limit};
 ghost use Rattle.tv_store.specs.Kept.{AtMost};
-ghost use Rattle.tv_store.specs.ReaderNumbers.{FewNumbers};
+ghost use Rattle.tv_catalog.specs.ReaderNumbers.{FewNumbers};
 ghost use Rattle.tv_store.specs.StoreCauses.{IsRefusal};
 ghost use Rattle.tv_replay.specs.AppliedEvents.{Runs, RunFaults, StopsRun, ScriptEndFaults, IsErrorOf};
 ghost use Rattle.tv_replay.specs.Completeness.{IsUndisturbed};

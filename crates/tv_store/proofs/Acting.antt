@@ -18,15 +18,16 @@ use Rattle.tv_machine.specs.Machine.{catalog_step, step}
 use Rattle.tv_machine.specs.Readable.{ReadsGood}
 use Rattle.tv_machine.specs.declared.event.Event.{Event}
 use Rattle.tv_machine.specs.declared.event.Event.TheVariants as events
-use Rattle.tv_store.specs.Kept.{KeptState, StoreState, Holds, AtMost}
-use Rattle.tv_store.specs.Exhausted.{IsExhausted, SpendsSearcher}
-use Rattle.tv_store.specs.ReaderNumbers.{FewNumbers}
-use Rattle.tv_store.specs.Effects.{TakesMetaLock, written_by}
+use Rattle.tv_catalog.specs.Kept.{KeptState}
+use Rattle.tv_store.specs.Kept.{StoreState, Holds, AtMost}
+use Rattle.tv_catalog.specs.Exhausted.{IsExhausted, SpendsSearcher}
+use Rattle.tv_catalog.specs.ReaderNumbers.{FewNumbers}
+use Rattle.tv_catalog.specs.Effects.{TakesMetaLock, written_by}
 use Rattle.tv_store.specs.ReadCauses.{IsReadError}
 use Rattle.tv_store.specs.Applying.{Stepped, ActCause, ApplyFaults, AsksNoFile, MayNoteAt, UnloadedAt, event_facts}
 use Rattle.tv_store.specs.Stays.{Asks, Stays, KeepsDotted, EventFaults}
 use Rattle.tv_store.specs.Acting.{Acts, KeepsMeta, LeavesStep, Passes, StepsTo}
-use Rattle.tv_store.specs.Catalogs.{CatalogCause, FitsCatalog}
+use Rattle.tv_catalog.specs.Catalogs.{CatalogCause, FitsCatalog}
 use Rattle.tv_store.proofs.Holding.{reads_alone, same_holds}
 use Rattle.tv_store.proofs.KeptLocks.{keeps_same}
 use Rattle.tv_store.proofs.Lifting.{catalog_held, numbers_grow, plain_event}

@@ -34,28 +34,29 @@ use Rattle.tv_store.proofs.Holding.{same_holds}
 use Rattle.tv_store.proofs.KeptLocks.{keeps_same}
 use Rattle.tv_store.proofs.PlannedCommit.{stays_or_next}
 use Rattle.tv_store.proofs.LoadedFiles.{unloaded_before}
+use Rattle.tv_store.proofs.Performing.{noted_by}
 use Rattle.tv_store.proofs.ReaderEvents.{busy_before, loading_weaker}
 use Rattle.tv_store.proofs.ReaderNumbers.{few_added, few_published}
 use Rattle.tv_store.proofs.Steps.{at_most, locking_cause, locks_none, longer}
 use Rattle.tv_store.specs.Acting.{Acts, LeavesStep, Passes}
-use Rattle.tv_store.specs.Actions.{MayGive, MayNoteBy, OnlyKeeps, SpentBy, LocksMeta, added_by, after, after_end, after_one, after_tried, catalog_after, line_of, of_body, reply_in, tried_in, tried_of, changed, loaded_by, settled, numbers_by, with_published, with_reader}
+use Rattle.tv_catalog.specs.Actions.{MayGive, OnlyKeeps, SpentBy, LocksMeta, added_by, after, after_end, after_one, after_tried, catalog_after, line_of, of_body, reply_in, tried_in, tried_of, changed, loaded_by, settled, numbers_by, with_published, with_reader}
+use Rattle.tv_store.specs.Performing.{MayNoteBy, FailsBy, FilesHold, KeepsBy, Performed, Performs, SavedNone, loading_facts}
 use Rattle.tv_store.specs.Applying.{ActCause, LeavesAlone, LeavesCommit, MayNoteAt, SavesAt, SavesPrinted, StepsHeld, UnloadedAt, UnloadedFor, event_facts}
-use Rattle.tv_store.specs.Effects.{TakesMetaLock, written_by}
-use Rattle.tv_store.specs.Exhausted.{IsExhausted}
+use Rattle.tv_catalog.specs.Effects.{TakesMetaLock, written_by}
+use Rattle.tv_catalog.specs.Exhausted.{IsExhausted}
 use Rattle.tv_store.specs.Kept.{AtMost, FilesState, Holds, Standing, StoreState, kept_of}
-use Rattle.tv_store.specs.Performing.{FailsBy, FilesHold, KeepsBy, Performed, Performs, SavedNone, loading_facts}
-use Rattle.tv_store.specs.Plans.{ChangesBeside, InMemory, LoadsFor, PlanCause, Plans}
+use Rattle.tv_catalog.specs.Plans.{ChangesBeside, InMemory, LoadsFor, PlanCause, Plans}
 use Rattle.tv_store.specs.ReadCauses.{IsReadError}
-use Rattle.tv_store.specs.ReaderNumbers.{FewNumbers}
+use Rattle.tv_catalog.specs.ReaderNumbers.{FewNumbers}
 use Rattle.tv_store.specs.Stays.{KeepsDotted, KeepsFiles}
 use Rattle.tv_store.specs.StoreCauses.{IsBusy, LockingCause}
-use Rattle.tv_store.specs.declared.action.Action.{Action}
-use Rattle.tv_store.specs.declared.action.Action.TheVariants as actions
-use Rattle.tv_store.specs.declared.action.Change.{Change}
-use Rattle.tv_store.specs.declared.action.Change.TheVariants as changes
-use Rattle.tv_store.specs.declared.action.Reply.{Reply}
-use Rattle.tv_store.specs.declared.action.Reply.TheVariants as replies
-use Rattle.tv_store.specs.declared.plan.Planned.{Planned}
+use Rattle.tv_catalog.specs.declared.action.Action.{Action}
+use Rattle.tv_catalog.specs.declared.action.Action.TheVariants as actions
+use Rattle.tv_catalog.specs.declared.action.Change.{Change}
+use Rattle.tv_catalog.specs.declared.action.Change.TheVariants as changes
+use Rattle.tv_catalog.specs.declared.action.Reply.{Reply}
+use Rattle.tv_catalog.specs.declared.action.Reply.TheVariants as replies
+use Rattle.tv_catalog.specs.declared.plan.Planned.{Planned}
 
 -- a store of these parts
 abbrev pub store_of : {O : Type 0} → Catalog → FilesState O → Standing → StoreState O
@@ -333,7 +334,7 @@ module _ {O W C : Type 0} (g : Ghosts O W C) (catalog : Catalog) (standing : Sta
       goes_on = below.kept.frame.tells_none.deletes_none.goes_on;
       heard = below.kept.frame.tells_none.heard;
       locks = λ t. keeps_same false false (g.view first.outside).locks (g.view next.outside).locks refl (below.kept.frame.locks t);
-      watched = plans.notes (g.view first.outside).watched (g.view next.outside).watched
+      watched = noted_by event planned.action plans.saves (g.view first.outside).watched (g.view next.outside).watched
           (subst (λ w. MayNoteBy planned.action (g.view first.outside).watched w) (sym below.kept.watched) (unnoted planned.action (g.view first.outside).watched));
     }
 
@@ -349,7 +350,7 @@ module _ {O W C : Type 0} (g : Ghosts O W C) (catalog : Catalog) (standing : Sta
           longer last.open_files (bound + added_by planned.action) (bound + written_by event) (omega (arith, plans.adds)) (p.lens bound (subst (AtMost bound) (sym kept) h))
 
       passed : {result : Result Reply TantivyError} → Performs g planned.action next last result → Passes g.told event false false (g.view first.outside) (g.view last.outside)
-      passed p = passes_by planned.action (g.view next.outside) (g.view last.outside) below p.frame plans.notes
+      passed p = passes_by planned.action (g.view next.outside) (g.view last.outside) below p.frame (noted_by event planned.action plans.saves)
 
       -- the step of the event, by what came of its action
       pub stepped : (s : State) → Holds (g.view first.outside).reads (kept_of catalog first) s → (deletes : List Bool) (reply : Reply) → reply ≡ reply_in s planned.action deletes

@@ -13,10 +13,11 @@ use Rattle.tv_machine.specs.Machine.{catalog_step, step, refused_in}
 use Rattle.tv_formats.specs.Meaning.{Means}
 use Rattle.tv_machine.specs.declared.event.Event.{Event}
 use Rattle.tv_machine.specs.declared.event.Event.TheVariants as events
-use Rattle.tv_store.specs.Kept.{KeptState, Standing, StoreState, Holds, AtMost}
-use Rattle.tv_store.specs.ReaderNumbers.{FewNumbers}
+use Rattle.tv_catalog.specs.Kept.{KeptState}
+use Rattle.tv_store.specs.Kept.{Standing, StoreState, Holds, AtMost}
+use Rattle.tv_catalog.specs.ReaderNumbers.{FewNumbers}
 use Rattle.tv_store.specs.Acting.{Acts}
-use Rattle.tv_store.specs.Effects.{written_by}
+use Rattle.tv_catalog.specs.Effects.{written_by}
 use Rattle.tv_store.specs.Applying.{ActCause, AppliesFrame, AsksNoFile, Grows, ApplyFaults, IsUndisturbedEvent, LeavesAlone, LeavesMeta, MayNoteAt, MeetsBadAt, SavesAt, Stepped}
 use Rattle.tv_store.specs.ReadCauses.{IsReadError}
 use Rattle.tv_machine.specs.Living.{is_busy}

@@ -18,7 +18,8 @@ use Rattle.tv_machine.specs.State.{State}
 use Rattle.tv_machine.specs.declared.event.Event.{Event}
 use Rattle.tv_store.specs.Acting.{Acts}
 use Rattle.tv_store.specs.Durable.{ActsSafely, store_files}
-use Rattle.tv_store.specs.Kept.{IsHeld, KeptState, StoreState}
+use Rattle.tv_store.specs.Kept.{IsHeld, StoreState}
+use Rattle.tv_catalog.specs.Kept.{KeptState}
 use Rattle.tv_store.specs.Surviving.{AppliesSafely, seen_of}
 use Rattle.tv_store.specs.Telling.{TellsNoLine, TriesLine}
 use Rattle.tv_store.proofs.Applied.{closed}

@@ -10,7 +10,8 @@ use Rattle.tv_machine.specs.State.{Catalog, State, FileState}
 use Rattle.tv_formats.proofs.CollectedNames.{has_without}
 use Rattle.tv_device.specs.declared.directory.Directory.{Ghosts}
 use Rattle.tv_store.specs.CollectingCalls.{BeginsCollection, FinishesCollection, TriesNext, gone_of}
-use Rattle.tv_store.specs.Kept.{FilesState, Holds, KeptState, kept_of}
+use Rattle.tv_store.specs.Kept.{FilesState, Holds, kept_of}
+use Rattle.tv_catalog.specs.Kept.{KeptState}
 use Rattle.tv_store.specs.Stays.{KeepsAllButList}
 use Rattle.tv_store.proofs.CollectionEvents.{gone_holds, takes_garbage}
 use Rattle.tv_store.proofs.Listings.{listing_kept}

@@ -16,15 +16,15 @@ use Rattle.tv_formats.proofs.Entries.{is_text, isnt_one}
 use Rattle.tv_formats.proofs.Options.{some_value}
 use Rattle.tv_machine.proofs.Collects.{failed_within}
 use Rattle.tv_device.specs.declared.directory.Directory.{Ghosts}
-use Rattle.tv_managed.specs.Collecting.{EndsCollection as EndsManaged}
-use Rattle.tv_managed.specs.Collecting.{Among, Begins, CollectCause, CollectFaults, IsLast, Leaves, SparesWriters, Steps, TakesNoLock, TriesName, is_done, meta_lock_name, taken_by, tried_name}
+use Rattle.tv_managed.specs.Collecting.{EndsCollection as EndsManaged, Among, Begins, CollectCause, CollectFaults, IsLast, Leaves, SparesWriters, Steps, TakesNoLock, TriesName, is_done, meta_lock_name, taken_by, tried_name}
 use Rattle.tv_managed.specs.Names.{ManagedNames}
 use Rattle.tv_managed.specs.declared.collection.CollectStep.{CollectStep}
 use Rattle.tv_managed.specs.declared.collection.GarbageCollectionResult.{GarbageCollectionResult}
 use Rattle.tv_store.proofs.Listings.{list_is_dotted}
-use Rattle.tv_store.specs.CollectingCalls.{FinishesCollection, HasUntried, TriesNext, gone_of}
-use Rattle.tv_store.specs.Effects.{collection_after}
-use Rattle.tv_store.specs.Exhausted.{SomePassesEnd}
+use Rattle.tv_store.specs.CollectingCalls.{FinishesCollection, TriesNext, gone_of}
+use Rattle.tv_catalog.specs.Kept.{HasUntried}
+use Rattle.tv_catalog.specs.Effects.{collection_after}
+use Rattle.tv_catalog.specs.Exhausted.{SomePassesEnd}
 use Rattle.tv_store.specs.FileCalls.{GcFaults}
 use Rattle.tv_store.specs.Kept.{FilesState, names_below}
 use Rattle.tv_store.specs.StoreCauses.{EventCause, IsBusy, LockingCause}

@@ -11,27 +11,16 @@ use Rattle.tv_machine.specs.CollectionEvents.{garbage, without_files, collected_
 use Rattle.tv_machine.specs.Machine.{refused_in}
 use Rattle.tv_formats.specs.Meaning.{Means}
 use Rattle.tv_formats.specs.Commits.{Commit, IsSegment, IndexForm}
-use Rattle.tv_formats.proofs.CollectedNames.{has_append, has_without, at_without}
+use Rattle.tv_formats.proofs.CollectedNames.{has_without, at_without}
 use Rattle.tv_machine.proofs.CollectionStates.{living_spared, meta_living, at_left}
 use Rattle.tv_device.specs.declared.directory.Directory.{Ghosts}
 use Rattle.tv_managed.specs.Collecting.{FailsAtMost}
 use Rattle.tv_store.specs.FileCalls.{TriesNames, Collects, LeavesFiles}
 use Rattle.tv_store.specs.Kept.{FilesState, Holds, FileHolds, is_left, kept_of}
 use Rattle.tv_store.proofs.Listings.{undotted_isnt_list}
+use Rattle.tv_catalog.proofs.SharedLaws.{same_collectable, same_needs}
 
 -- ---- a collection
-
--- names that are among others alike are spared alike
-pub same_collectable : (needed others managed : List (List ℕ)) → ((n : List ℕ) → has needed n ≡ has others n) → collectable needed managed ≡ collectable others managed
-same_collectable needed others [] h = refl
-same_collectable needed others (x ∷ managed) h = rw (h x, same_collectable needed others managed h) refl
-
--- what is needed, and what is held, by the state
-pub same_needs : (needed : List (List ℕ)) (collections held_by : Collections) (catalog : Catalog) → collections ≡ held_by → ((n : List ℕ) → has needed n ≡ has (living catalog) n)
-    → (n : List ℕ) → has (needed ++ held collections) n ≡ has (living catalog ++ held held_by) n
-same_needs needed collections held_by catalog same needs n =
-    has_append needed (held collections) n ∙ ap (λ (b : Bool). b || has (held collections) n) (needs n) ∙ ap (λ (c : Collections). has (living catalog) n || has (held c) n) same
-    ∙ sym (has_append (living catalog) (held held_by) n)
 
 -- as many deletes were refused as names failed
 refused_is : (names : List (List ℕ)) (outcomes : List Bool) → length outcomes ≡ length names → refused_in outcomes ≡ length (failed_of names outcomes)

@@ -29,13 +29,13 @@ use Rattle.tv_machine.specs.Living.{living}
 use Rattle.tv_machine.specs.State.{Catalog, FileState, Left, Open, SealedFile, State, file_at}
 use Rattle.tv_managed.specs.Crashes.{AreListed, IsTracked, KeepsTrack}
 use Rattle.tv_managed.specs.TrackLaws.{listed_read, track_read}
-use Rattle.tv_store.specs.Actions.{after}
+use Rattle.tv_catalog.specs.Actions.{after}
 use Rattle.tv_store.specs.Durable.{IsDurable, LeavesStored}
 use Rattle.tv_store.specs.Kept.{FilesState, names_below}
 use Rattle.tv_store.specs.Performing.{FilesHold}
 use Rattle.tv_store.specs.Stays.{KeepsFiles}
-use Rattle.tv_store.specs.declared.action.Action.{Action}
-use Rattle.tv_store.specs.declared.action.Reply.{Reply}
+use Rattle.tv_catalog.specs.declared.action.Action.{Action}
+use Rattle.tv_catalog.specs.declared.action.Reply.{Reply}
 use Rattle.tv_store.proofs.Listings.{undotted_isnt_list}
 
 -- what live segments require is living

@@ -17,15 +17,16 @@ use Rattle.tv_machine.specs.Machine.{catalog_step}
 use Rattle.tv_machine.specs.SoundStates.{IsWhole}
 use Rattle.tv_machine.specs.State.{Catalog, State, StepResult, file_at, on_catalog}
 use Rattle.tv_machine.specs.declared.event.Event.{Event}
-use Rattle.tv_store.specs.Actions.{after, changed, reply_in, settled}
-use Rattle.tv_store.specs.Catalogs.{FitsCatalog}
+use Rattle.tv_catalog.specs.Actions.{after, changed, reply_in, settled}
+use Rattle.tv_catalog.specs.Catalogs.{FitsCatalog}
 use Rattle.tv_store.specs.Durable.{ActsSafely, IsDurable, LeavesStored, PerformsSafely, store_files}
-use Rattle.tv_store.specs.Kept.{FilesState, Holds, IsHeld, KeptState, Standing, StoreState, kept_of, names_below}
+use Rattle.tv_store.specs.Kept.{FilesState, Holds, IsHeld, Standing, StoreState, kept_of, names_below}
+use Rattle.tv_catalog.specs.Kept.{KeptState}
 use Rattle.tv_store.specs.Performing.{Performs}
-use Rattle.tv_store.specs.Plans.{CanPerform, Plans}
+use Rattle.tv_catalog.specs.Plans.{CanPerform, Plans}
 use Rattle.tv_store.specs.Stays.{KeepsFiles}
-use Rattle.tv_store.specs.declared.action.Reply.{Reply}
-use Rattle.tv_store.specs.declared.plan.Planned.{Planned}
+use Rattle.tv_catalog.specs.declared.action.Reply.{Reply}
+use Rattle.tv_catalog.specs.declared.plan.Planned.{Planned}
 use Rattle.tv_store.proofs.ActsPlanned.{commit_stays, files_hold, held_after, in_memory, live_stays, stepped, store_of}
 use Rattle.tv_store.proofs.Asking.{kept_by_files}
 use Rattle.tv_store.proofs.Durable.{read_durable, read_run}

@@ -20,14 +20,14 @@ use Rattle.tv_machine.specs.State.{State, file_at}
 use Rattle.tv_managed.specs.Collecting.{NextName, taken_by}
 use Rattle.tv_managed.specs.Crashes.{AnyOrList, EndsSafely, StepsSafely}
 use Rattle.tv_managed.specs.Names.{ManagedNames}
-use Rattle.tv_store.specs.Actions.{after, after_end}
-use Rattle.tv_store.specs.CollectingCalls.{HasUntried}
+use Rattle.tv_catalog.specs.Actions.{after, after_end}
+use Rattle.tv_catalog.specs.Kept.{HasUntried}
 use Rattle.tv_store.specs.Durable.{IsDurable, LeavesStored}
 use Rattle.tv_store.specs.FileStates.{CollectsSafely}
 use Rattle.tv_store.specs.Kept.{FilesState, names_below}
 use Rattle.tv_store.specs.Performing.{FilesHold}
-use Rattle.tv_store.specs.declared.action.Action.TheVariants as actions
-use Rattle.tv_store.specs.declared.action.Reply.{Reply}
+use Rattle.tv_catalog.specs.declared.action.Action.TheVariants as actions
+use Rattle.tv_catalog.specs.declared.action.Reply.{Reply}
 use Rattle.tv_store.proofs.Durable.{KeepsSealed, Needs, given_ok, is_living, isnt_list, keeps_all, stores_on}
 use Rattle.tv_store.proofs.Listings.{undotted_isnt_list}
 use Rattle.tv_store.proofs.Removals.{living_spared}

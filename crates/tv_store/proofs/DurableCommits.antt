@@ -23,16 +23,16 @@ use Rattle.tv_machine.specs.CommitEvents.{is_sealed}
 use Rattle.tv_machine.specs.Index.{IsFileOf}
 use Rattle.tv_machine.specs.State.{FileState, Left, Open, SealedFile, State, file_at}
 use Rattle.tv_managed.specs.Crashes.{Gains, IsGiven, IsNewList}
-use Rattle.tv_store.specs.Actions.{after, first_open, reply_in}
-use Rattle.tv_store.specs.Committing.{PrintsNext}
+use Rattle.tv_catalog.specs.Actions.{after, first_open, reply_in}
+use Rattle.tv_catalog.specs.Committing.{PrintsNext}
 use Rattle.tv_store.specs.Durable.{IsDurable, LeavesStored}
 use Rattle.tv_store.specs.FileCalls.{SavesSafely}
 use Rattle.tv_store.specs.Kept.{FilesState, kept_of, names_below}
 use Rattle.tv_store.specs.Performing.{FilesHold}
-use Rattle.tv_store.specs.declared.action.Action.{Action}
-use Rattle.tv_store.specs.declared.action.Action.TheVariants as actions
-use Rattle.tv_store.specs.declared.action.Reply.{Reply}
-use Rattle.tv_store.specs.declared.action.Reply.TheVariants as replies
+use Rattle.tv_catalog.specs.declared.action.Action.{Action}
+use Rattle.tv_catalog.specs.declared.action.Action.TheVariants as actions
+use Rattle.tv_catalog.specs.declared.action.Reply.{Reply}
+use Rattle.tv_catalog.specs.declared.action.Reply.TheVariants as replies
 use Rattle.tv_store.proofs.Durable.{is_file, one_state, safe_of}
 use Rattle.tv_crashes.proofs.StoredSound.{sealed_file}
 use Rattle.tv_store.proofs.Listings.{undotted_isnt_list}

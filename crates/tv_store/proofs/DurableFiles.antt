@@ -22,15 +22,15 @@ use Rattle.tv_machine.specs.Index.{IsFileOf}
 use Rattle.tv_machine.specs.ReopenEvents.{all_left}
 use Rattle.tv_machine.specs.State.{FileState, Left, Open, SealedFile, State, file_at}
 use Rattle.tv_managed.specs.Crashes.{Gains, IsFree, IsGiven, IsTracked, LeavesSafely, SettlesStates}
-use Rattle.tv_store.specs.Actions.{after, of_body}
+use Rattle.tv_catalog.specs.Actions.{after, of_body}
 use Rattle.tv_store.specs.Durable.{IsDurable, LeavesStored}
 use Rattle.tv_store.specs.FileStates.{OpensStates, SealsAs}
 use Rattle.tv_store.specs.Kept.{FileHolds, FilesState, names_below}
 use Rattle.tv_store.specs.Performing.{FilesHold}
-use Rattle.tv_store.specs.declared.action.Action.{Action}
-use Rattle.tv_store.specs.declared.action.Action.TheVariants as actions
-use Rattle.tv_store.specs.declared.action.Reply.{Reply}
-use Rattle.tv_store.specs.declared.action.Reply.TheVariants as replies
+use Rattle.tv_catalog.specs.declared.action.Action.{Action}
+use Rattle.tv_catalog.specs.declared.action.Action.TheVariants as actions
+use Rattle.tv_catalog.specs.declared.action.Reply.{Reply}
+use Rattle.tv_catalog.specs.declared.action.Reply.TheVariants as replies
 use Rattle.tv_store.proofs.Durable.{KeepsSealed, durable_so, is_there, isnt_list, keeps_all, leaves_stored, one_state, safe_run, safe_still, stores_on}
 use Rattle.tv_store.proofs.Listings.{undotted_isnt_list}
 

@@ -13,7 +13,8 @@ use Rattle.tv_formats.specs.declared.segment.LiveSegment.{LiveSegment}
 use Rattle.tv_machine.specs.Index.{IsFileOf}
 use Rattle.tv_machine.specs.State.{Catalog, FileState, Left, Open, SealedFile, State, file_at}
 use Rattle.tv_store.specs.Durable.{IsDurable, store_files}
-use Rattle.tv_store.specs.Kept.{FileHolds, FilesState, Holds, IsHeld, KeptState, StoreState, is_left}
+use Rattle.tv_store.specs.Kept.{FileHolds, FilesState, Holds, IsHeld, StoreState, is_left}
+use Rattle.tv_catalog.specs.Kept.{KeptState}
 use Rattle.tv_store.proofs.Durable.{stored_as}
 use Rattle.tv_crashes.proofs.StoredSound.{sealed_file}
 use Rattle.tv_store.proofs.NewlyRequired.{MayRequire}

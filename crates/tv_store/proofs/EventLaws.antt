@@ -29,12 +29,13 @@ use Rattle.tv_formats.proofs.Entries.{text_at}
 use Rattle.tv_formats.proofs.Numbered.{put_found}
 use Rattle.tv_machine.proofs.Required.{name_is_file}
 use Rattle.tv_machine.proofs.WholeStates.{after_whole}
-use Rattle.tv_store.specs.Applying.{LeavesAlone, Stepped, WritesByStep}
+use Rattle.tv_store.specs.Applying.{LeavesAlone, Stepped}
+use Rattle.tv_catalog.specs.Effects.{WritesByStep}
 use Rattle.tv_store.specs.EventLaws.{HasLiving, HoldsSome}
 use Rattle.tv_store.specs.Kept.{FileHolds, Holds, StoreState}
 use Rattle.tv_store.specs.SnapshotCalls.{ShowsMeta}
-use Rattle.tv_store.proofs.FilesHeld.{body_step, file_known}
-use Rattle.tv_store.proofs.OpenFiles.{all_found}
+use Rattle.tv_store.proofs.FilesHeld.{body_step}
+use Rattle.tv_catalog.proofs.SharedLaws.{file_known, all_found}
 use Rattle.tv_store.proofs.Changed.{file_put}
 
 -- ---- a delete name that is taken

@@ -4,7 +4,7 @@ use Rattle.std.specs.Prelude.{OnOk}
 use Rattle.std.specs.List.{AllByRecursion}
 use Rattle.tv_formats.specs.Collections.{Collections}
 use Rattle.tv_machine.specs.State.{Reader, Readers}
-use Rattle.tv_store.specs.ReaderNumbers.{FewNumbers}
+use Rattle.tv_catalog.specs.ReaderNumbers.{FewNumbers}
 
 few_readers : (small large : ℕ) (readers : List (ℕ × Reader)) → small ≤ large → AllByRecursion (λ e. e.1.next ≤ small) readers → AllByRecursion (λ e. e.1.next ≤ large) readers
 few_readers small large [] le h = tt

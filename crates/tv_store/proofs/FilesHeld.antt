@@ -4,14 +4,11 @@ use Rattle.std.specs.Prelude.{IsSome}
 use Rattle.std.specs.Map.{remove_entry, set_value}
 use Rattle.std.specs.BTreeMap.{is_at, insert_entry}
 use Rattle.std.specs.BTreeSet.{insert_key}
-use Rattle.tv_formats.specs.declared.segment.LiveSegment.{LiveSegment}
-use Rattle.tv_formats.specs.declared.segment.SegmentComponent.{SegmentComponent}
 use Rattle.tv_formats.specs.Names.{byte_cmp, has, meta_name, at}
 use Rattle.tv_formats.specs.Footer.{sealed}
 use Rattle.tv_formats.specs.Files.{Reads, KeepsOthers, Sets}
 use Rattle.tv_formats.specs.Listing.{IsListFile, Listing}
-use Rattle.tv_formats.specs.Segments.{name_of}
-use Rattle.tv_machine.specs.State.{Catalog, State, StepResult, FileState, SealedFile, Open, Left, live_at, file_at, with_file}
+use Rattle.tv_machine.specs.State.{Catalog, State, StepResult, FileState, SealedFile, Open, Left, file_at, with_file}
 use Rattle.tv_machine.specs.Lines.{given}
 use Rattle.tv_machine.specs.FileEvents.{sealed_as, written_to, wrote}
 use Rattle.tv_formats.specs.Collections.{Collections, held}
@@ -28,28 +25,21 @@ use Rattle.tv_device.specs.declared.directory.Directory.{Ghosts}
 use Rattle.tv_formats.specs.Meaning.{Means}
 use Rattle.tv_formats.specs.Commits.{IndexForm}
 use Rattle.tv_store.proofs.Listings.{listing_beside, undotted_isnt_list}
-use Rattle.tv_store.specs.Kept.{KeptState, FilesState, kept_of, FileHolds, is_left, Holds}
-use Rattle.tv_store.specs.Actions.{of_body}
+use Rattle.tv_catalog.specs.Kept.{KeptState}
+use Rattle.tv_store.specs.Kept.{FilesState, kept_of, FileHolds, is_left, Holds}
+use Rattle.tv_catalog.specs.Actions.{of_body}
 use Rattle.tv_store.specs.FileCalls.{OpensFile, FindsFile}
 use Rattle.tv_store.specs.Performing.{FilesHold, Performed, Short}
-use Rattle.tv_store.specs.declared.action.Action.TheVariants as actions
-use Rattle.tv_store.specs.declared.action.Reply.TheVariants as replies
+use Rattle.tv_catalog.specs.declared.action.Action.TheVariants as actions
+use Rattle.tv_catalog.specs.declared.action.Reply.TheVariants as replies
 use Rattle.tv_store.specs.Stays.{KeepsManaged}
 use Rattle.tv_store.proofs.Changed.{opened_anew, sealed_now, wrote_more}
 use Rattle.tv_store.proofs.Holding.{same_holds}
-use Rattle.tv_store.proofs.OpenFiles.{all_put, all_left, all_found, all_set}
+use Rattle.tv_catalog.proofs.SharedLaws.{all_put, all_left, all_found, has_body}
+use Rattle.tv_store.proofs.OpenFiles.{all_set}
 use Rattle.tv_store.proofs.Removals.{at_removed}
 
 -- ---- steps of files
-
--- the step of a file of a live segment, under the name that the segment gives it
-abbrev pub file_step : State → List ℕ → SegmentComponent → (LiveSegment → List ℕ → StepResult State) → StepResult State
-file_step s id component step = given s (live_at s.catalog id) (codes "unknown-segment") (λ segment. step segment (name_of id segment.deletes component))
-
-pub file_known : (s : State) (id name : List ℕ) (component : SegmentComponent) (segment : LiveSegment) (step : LiveSegment → List ℕ → StepResult State)
-    → live_at s.catalog id ≡ Some segment → name ≡ name_of id segment.deletes component → file_step s id component step ≡ step segment name
-file_known s id name component segment step found is =
-    ap (λ (o : Option LiveSegment). given s o (codes "unknown-segment") (λ x. step x (name_of id x.deletes component))) found ∙ ap (step segment) (sym is)
 
 -- what was written to a file of the state is what was written to it here
 pub written_is : (file : Option FileState) (read written : Option (List ℕ)) → FileHolds file read written → written_to file ≡ written
@@ -130,11 +120,6 @@ open_isnt_left None read written body h e = refl
 open_isnt_left (Some (SealedFile bytes)) read written body h e = refl
 open_isnt_left (Some (Open text)) read written body h e = refl
 open_isnt_left (Some Left) read written body h e = let k : None ≡ Some body = sym h.1 ∙ e in absurd cc
-
--- a file whose length is told has a body of that length
-pub has_body : (o : Option (List ℕ)) (len : ℕ) → Some len ≡ option_map length o → (body : List ℕ) × (o ≡ Some body) × (len ≡ length body)
-has_body None len e = absurd cc
-has_body (Some body) len e = (body, refl, cc)
 
 -- what there is has a value
 pub some_body : (o : Option (List ℕ)) → IsSome o → (body : List ℕ) × (o ≡ Some body)

@@ -6,7 +6,8 @@ use Rattle.tv_machine.specs.State.{State, file_at}
 use Rattle.tv_managed.specs.Managed.{KeepsOtherFiles}
 use Rattle.tv_device.specs.View.{OnlyReads, Told, View}
 use Rattle.tv_store.specs.Applying.{LeavesAlone}
-use Rattle.tv_store.specs.Kept.{KeptState, FileHolds, Holds}
+use Rattle.tv_catalog.specs.Kept.{KeptState}
+use Rattle.tv_store.specs.Kept.{FileHolds, Holds}
 use Rattle.tv_store.specs.Stays.{KeepsDotted}
 use Rattle.tv_store.proofs.Listings.{listing_kept}
 

@@ -4,16 +4,11 @@ pub mod KnownFiles
 pub mod OpenFiles
 pub mod Removals
 pub mod Holding
-pub mod LivingNames
 pub mod Held
-pub mod FileNames
 pub mod Named
 pub mod Changed
 pub mod FilesHeld
-pub mod Planned
-pub mod PlannedCollections
 pub mod PlannedCommit
-pub mod PlannedSegments
 pub mod Performing
 pub mod Durable
 pub mod DurableFiles
@@ -24,7 +19,6 @@ pub mod ActsPlanned
 pub mod NewlyRequired
 pub mod DurableStates
 pub mod DurableActs
-pub mod ChosenSegments
 pub mod CommitEvents
 pub mod Lifting
 pub mod LoadedCommits
@@ -37,7 +31,6 @@ pub mod FewNumbers
 pub mod ReaderNumbers
 pub mod ReaderEvents
 pub mod LoadedFiles
-pub mod PlannedReaders
 pub mod ReportEvents
 pub mod StoreLocks
 pub mod Asking
@@ -47,7 +40,6 @@ pub mod Applied
 pub mod AppliedSafely
 pub mod Opened
 pub mod FoundStates
-pub mod OpenedCatalogs
 pub mod CheckedFiles
 pub mod Unfound
 pub mod Locking

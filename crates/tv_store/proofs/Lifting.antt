@@ -16,12 +16,14 @@ use Rattle.tv_machine.specs.SegmentEvents.{has_docs}
 use Rattle.tv_machine.specs.State.{Catalog, State, StepResult, on_catalog}
 use Rattle.tv_machine.proofs.Changes.{catalog_changes}
 use Rattle.tv_machine.proofs.SoundStates.{undeleted}
-use Rattle.tv_store.specs.Effects.{TakesMetaLock, written_by}
-use Rattle.tv_store.specs.Catalogs.{FitsCatalog}
-use Rattle.tv_store.specs.Kept.{KeptState, Holds}
-use Rattle.tv_store.specs.ReaderNumbers.{FewNumbers}
+use Rattle.tv_catalog.specs.Effects.{TakesMetaLock, written_by}
+use Rattle.tv_catalog.specs.Catalogs.{FitsCatalog}
+use Rattle.tv_catalog.specs.Kept.{KeptState}
+use Rattle.tv_store.specs.Kept.{Holds}
+use Rattle.tv_catalog.specs.ReaderNumbers.{FewNumbers}
 use Rattle.tv_store.proofs.FewNumbers.{few_more}
-use Rattle.tv_store.proofs.Named.{put_segments, found_segment, fresh_is}
+use Rattle.tv_catalog.proofs.SharedLaws.{put_segments, found_segment}
+use Rattle.tv_store.proofs.Named.{fresh_is}
 use Rattle.tv_store.proofs.ReaderNumbers.{few_released}
 use Rattle.tv_store.proofs.Steps.{IsNoCommit}
 

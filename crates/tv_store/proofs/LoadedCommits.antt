@@ -15,7 +15,8 @@ use Rattle.tv_formats.specs.declared.segment.LiveSegment.{LiveSegment}
 use Rattle.tv_formats.proofs.MeansOne.{means_no_other, means_one, means_something}
 use Rattle.tv_store.specs.Applying.{HoldsNone}
 use Rattle.tv_store.specs.Bodies.{ReadsSegments}
-use Rattle.tv_store.specs.Kept.{KeptState, Holds}
+use Rattle.tv_catalog.specs.Kept.{KeptState}
+use Rattle.tv_store.specs.Kept.{Holds}
 
 pub loaded_commit : {O W C : Type 0} (g : Ghosts O W C) (outside : O) (kept : KeptState) (s : State) (meta : UntrackedIndexMeta) → g.told.content
     → LoadsMeta g outside (Some kept.form.schema) meta → Holds (g.view outside).reads kept s → commit_of meta ≡ s.catalog.commit

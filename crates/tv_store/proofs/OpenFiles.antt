@@ -1,7 +1,7 @@
 -- The entries of open files, and what of them stays true.
 use Rattle.std.proofs.Common.{◌≡◌, ◌⊎◌, inl, inr, ℕ, Bool, true, false, true≢false, cond, List, [], ◌∷◌, map, Option, Some, None, option_map, is_some, length, ◌++◌, ◌+◌, ◌<◌, length-append, refl, sym, ap, subst, ◌∙◌, Ok, Err}
 use Rattle.std.specs.Prelude.{IsSome, Result}
-use Rattle.std.specs.Ordering.{is_eq, match_ordering}
+use Rattle.std.specs.Ordering.{match_ordering}
 use Rattle.std.specs.declared.cmp.Ordering.{Ordering}
 use Rattle.std.specs.declared.cmp.Ordering.TheVariants.{Less, Equal, Greater}
 use Rattle.std.specs.List.{AllByRecursion}
@@ -27,6 +27,7 @@ use Rattle.tv_store.specs.Kept.{FilesState}
 use Rattle.tv_store.specs.FileCalls.{Asked}
 use Rattle.tv_store.specs.OpenFiles.{AreThere, IsOpenFile}
 use Rattle.tv_store.proofs.KnownFiles.{KeepsThere, still_there}
+use Rattle.tv_catalog.proofs.SharedLaws.{all_put, all_left, all_found, left}
 
 found : {X Y : Type 0} (f : X → Y) (b : Bool) (x : X) (rest : Option X) (seen : Option Y) → seen ≡ option_map f rest → cond b (Some (f x)) seen ≡ option_map f (cond b (Some x) rest)
 found f true x rest seen e = refl
@@ -87,36 +88,6 @@ all_set {X} P (e ∷ es) n v here h =
       | true ↦ λ is. (subst (λ (k : List ℕ). P (k, v)) (text_at n e.0 is) here, h.1)
       | false ↦ λ is. (h.0, all_set P es n v here h.1)
     ] refl
-
--- what is true of each entry, and of one that is put
-pub all_put : {X : Type 0} (P : List ℕ × X → Type 0) (es : List (List ℕ × X)) (n : List ℕ) (v : X) → P (n, v) → AllByRecursion P es → AllByRecursion P (insert_entry byte_cmp es n v)
-all_put P [] n v here h = (here, tt)
-all_put {X} P (e ∷ es) n v here h =
-    elim (byte_cmp n e.0) as (λ r. byte_cmp n e.0 ≡ r → AllByRecursion P (match_ordering r ((n, v) ∷ e ∷ es) ((e.0, v) ∷ es) (e ∷ insert_entry byte_cmp es n v))) [
-      | Less ↦ λ r. (here, h)
-      | Equal ↦ λ r. (subst (λ (k : List ℕ). P (k, v)) (text_at n e.0 (ap is_eq r)) here, h.1)
-      | Greater ↦ λ r. (h.0, all_put P es n v here h.1)
-    ] refl
-
-left : {X : Type 0} (P : List ℕ × X → Type 0) (b : Bool) (e : List ℕ × X) (es rest : List (List ℕ × X)) → P e → AllByRecursion P es → AllByRecursion P rest → AllByRecursion P (cond b es (e ∷ rest))
-left P true e es rest here h more = h
-left P false e es rest here h more = (here, more)
-
--- what is true of each entry is true of those that are left
-pub all_left : {X : Type 0} (P : List ℕ × X → Type 0) (es : List (List ℕ × X)) (test : List ℕ → Bool) → AllByRecursion P es → AllByRecursion P (remove_entry test es)
-all_left P [] test h = tt
-all_left P (e ∷ es) test h = left P (test e.0) e es (remove_entry test es) h.0 h.1 (all_left P es test h.1)
-
--- what is true of each entry is true of the one that is found
-pub all_found : {X : Type 0} (P : List ℕ × X → Type 0) (es : List (List ℕ × X)) (n : List ℕ) (v : X) → AllByRecursion P es → at es n ≡ Some v → P (n, v)
-all_found P [] n v h e = absurd cc
-all_found {X} P (x ∷ es) n v h e =
-    elim (is_at (byte_cmp n) x.0) as (λ b. is_at (byte_cmp n) x.0 ≡ b → cond b (Some x.1) (at es n) ≡ Some v → P (n, v)) [
-      | true ↦ λ is same.
-          let value : x.1 ≡ v = cc in
-          subst (λ (k : List ℕ). P (k, v)) (sym (text_at n x.0 is)) (subst (λ (w : X). P (x.0, w)) value h.0)
-      | false ↦ λ is same. all_found P es n v h.1 same
-    ] refl e
 
 -- these files are open
 abbrev pub AreOpen : {D W C : Type 0} (g : Ghosts D W C) (directory : D) → List (List ℕ × OpenFile D W C) → Type 0

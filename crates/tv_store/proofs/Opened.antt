@@ -31,7 +31,8 @@ use Rattle.tv_index.specs.CrashLaws.{looks_kept, looks_then, makes_behind, makes
 use Rattle.tv_index.specs.Crashes.{LacksMeta, MayMake, TracksFrom}
 use Rattle.tv_index.specs.Opening.{Finds, LeavesFound, LeavesUnopened, NotesNone, first_text}
 use Rattle.tv_store.specs.Bodies.{ReadsGoodFile}
-use Rattle.tv_store.specs.Kept.{KeptState, FilesState, Holds, StoreState, kept_of}
+use Rattle.tv_catalog.specs.Kept.{KeptState}
+use Rattle.tv_store.specs.Kept.{FilesState, Holds, StoreState, kept_of}
 use Rattle.tv_store.specs.Making.{OpensCommit, FindsFiles, IsRefusedFirst, WritesNone}
 use Rattle.tv_store.specs.Opening.{Opens, OpensOrRefuses}
 use Rattle.tv_store.specs.OpeningCauses.{CallFacts, IndexMissing, IndexRefused, IsFirstBad, IsSomeSchema, MeetsMissing, MeetsRefused, OpeningCause, opening_facts}

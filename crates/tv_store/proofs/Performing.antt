@@ -8,7 +8,10 @@ use Rattle.tv_device.specs.View.{Kept as KeptView, MayDelete, OnlyReads, Told, V
 use Rattle.tv_device.specs.declared.directory.Directory.{Ghosts}
 use Rattle.tv_formats.proofs.Results.{any_err, on_err, on_ok}
 use Rattle.tv_formats.specs.Files.{Rose, RoseBy}
+use Rattle.tv_device.specs.Watch.{MayNote, WatchState}
 use Rattle.tv_formats.specs.Names.{meta_name}
+use Rattle.tv_machine.specs.declared.event.Event.{Event}
+use Rattle.tv_machine.specs.declared.event.Event.TheVariants as events
 use Rattle.tv_machine.specs.Machine.{refused_in}
 use Rattle.tv_machine.specs.SoundStates.{IsWhole}
 use Rattle.tv_machine.specs.State.{State}
@@ -18,19 +21,19 @@ use Rattle.tv_store.proofs.Asking.{kept_by_files}
 use Rattle.tv_store.proofs.FilesHeld.{short_same}
 use Rattle.tv_store.proofs.Holding.{dotted_others, reads_alone, same_holds}
 use Rattle.tv_store.proofs.Listings.{undotted_isnt_list}
-use Rattle.tv_store.specs.Actions.{MayGive, MayNoteBy, OnlyKeeps, SpentBy, Suits, LocksMeta, TriesDeletes, added_by, after, given_by, reply_in}
+use Rattle.tv_catalog.specs.Actions.{MayGive, OnlyKeeps, SavesNoCommit, SpentBy, Suits, LocksMeta, TriesDeletes, added_by, after, given_by, reply_in}
+use Rattle.tv_store.specs.Performing.{MayNoteBy, FailsBy, FaultsBy, FilesHold, KeepsBy, MetaBy, Performed, Performs, Short}
 use Rattle.tv_formats.specs.Commits.{Commit}
 use Rattle.tv_device.specs.ViewLaws.{kept_itself}
-use Rattle.tv_store.specs.Applying.{LeavesAlone}
-use Rattle.tv_store.specs.declared.action.Reply.TheVariants as replies
+use Rattle.tv_store.specs.Applying.{LeavesAlone, MayNoteAt}
+use Rattle.tv_catalog.specs.declared.action.Reply.TheVariants as replies
 use Rattle.tv_store.specs.Kept.{FilesState, kept_of}
-use Rattle.tv_store.specs.Performing.{FailsBy, FaultsBy, FilesHold, KeepsBy, MetaBy, Performed, Performs, Short}
-use Rattle.tv_store.specs.Plans.{IsSegmentFile}
+use Rattle.tv_catalog.specs.Plans.{IsSegmentFile, SavesOnlyAt}
 use Rattle.tv_store.specs.Stays.{EventFaults, KeepsDotted, KeepsFiles, KeepsMade, KeepsManaged}
 use Rattle.tv_store.specs.StoreCauses.{EventCause, LockingCause}
-use Rattle.tv_store.specs.declared.action.Action.{Action}
-use Rattle.tv_store.specs.declared.action.Action.TheVariants as actions
-use Rattle.tv_store.specs.declared.action.Reply.{Reply}
+use Rattle.tv_catalog.specs.declared.action.Action.{Action}
+use Rattle.tv_catalog.specs.declared.action.Action.TheVariants as actions
+use Rattle.tv_catalog.specs.declared.action.Reply.{Reply}
 
 -- a cause without a lock, and without anything spent, is one with them
 pub no_lock : (busy refused quiet spent : Type 0) (error : TantivyError) → EventCause refused quiet ⊥ error → LockingCause busy refused quiet spent error
@@ -185,3 +188,20 @@ asks_only g action old new result gives found faults frame notes =
       saves = λ commit e. absurd (k.2 commit e);
     }) (found tells s h whole suits)))
     (λ bound short. short_same bound (added_by action) old.open_files new.open_files frame.open_files short) (few_given (given_by action) result frame.managed.collections) faults frame.managed.form notes below
+
+-- ---- notices
+
+-- a notice comes by a save
+by_save : (action : Action) (old new : WatchState) → MayNoteBy action old new → MayNote meta_name old new
+by_save (actions.Save commit text required) old new may = may
+by_save other old new same = inl same
+
+-- and by nothing else
+by_none : (action : Action) → SavesNoCommit action → (old new : WatchState) → MayNoteBy action old new → new ≡ old
+by_none (actions.Save commit text required) none old new may = absurd none
+by_none other none old new same = same
+
+-- so that it comes only at an event that commits
+pub noted_by : (event : Event) (action : Action) → SavesOnlyAt event action → (old new : WatchState) → MayNoteBy action old new → MayNoteAt event old new
+noted_by (events.Commit payload ids) action saves old new may = by_save action old new may
+noted_by other action saves old new may = by_none action saves old new may

@@ -1,22 +1,21 @@
 -- The events of readers: which files are read, why a read fails, and what is held afterwards.
-use Rattle.std.proofs.Common.{◌≡◌, ◌≢◌, inl, inr, ℕ, zero, suc, ◌+◌, ◌<◌, Bool, true, false, true≢false, List, [], ◌∷◌, ◌++◌, map, length, take, drop, get_or, string_bytes, Option, Some, None, refl, sym, ap, subst, ◌∙◌, arith, append_assoc}
+use Rattle.std.proofs.Common.{◌≡◌, ◌≢◌, inl, inr, ℕ, zero, suc, ◌+◌, ◌<◌, Bool, true, false, true≢false, List, [], ◌∷◌, ◌++◌, map, length, take, drop, get_or, string_bytes, Option, Some, None, sym, ap, subst, ◌∙◌, arith, append_assoc}
 use Rattle.std.proofs.Math.Logic.{⊎_map}
-use Rattle.std.specs.Prelude.{IsSome, option_map, String}
+use Rattle.std.specs.Prelude.{String}
 use Rattle.std.specs.Global.{Global}
-use Rattle.std.proofs.lemmas.List.{take_more, map_push, take-append-drop, drop_more}
+use Rattle.std.proofs.lemmas.List.{take_more, map_push}
 use Rattle.std.proofs.lemmas.Grind.{flat_map-append}
 use Rattle.std.proofs.lemmas.Bool.{or_left, or_right}
-use Rattle.tv_machine.specs.declared.event.Event.TheVariants as events
 use Rattle.tv_formats.specs.declared.segment.LiveSegment.{LiveSegment}
 use Rattle.tv_formats.specs.Names.{is, has, is_file_name, at}
 use Rattle.tv_formats.specs.Files.{Reads, Same, Rose}
 use Rattle.tv_formats.specs.Footer.{HasBody}
 use Rattle.tv_formats.specs.Segments.{required_names, all_required}
-use Rattle.tv_machine.specs.State.{State, FileState, SealedFile, Open, Left, Reader, file_at, on_catalog, reader_at}
+use Rattle.tv_machine.specs.State.{State, FileState, SealedFile, Open, Left, file_at}
 use Rattle.tv_machine.specs.Lines.{given}
 use Rattle.tv_machine.specs.CommitEvents.{is_sealed}
-use Rattle.tv_machine.specs.Readable.{IsGoodFile, read_by}
-use Rattle.tv_machine.specs.ReaderEvents.{body_in, reload_step, reloaded}
+use Rattle.tv_machine.specs.Readable.{IsGoodFile}
+use Rattle.tv_machine.specs.ReaderEvents.{body_in}
 use Rattle.tv_formats.proofs.Entries.{is_itself, is_text}
 use Rattle.tv_formats.proofs.Bodies.{body_of_good}
 use Rattle.tv_formats.proofs.CollectedNames.{has_append}
@@ -38,7 +37,9 @@ use Rattle.tv_managed.specs.Reading.{HasNoBody, NamesFile, ReadsBody, OpenBodyCa
 use Rattle.tv_store.specs.StoreCauses.{IsBusy, MakesNoFile, WriteFault}
 use Rattle.tv_store.specs.ReadCauses.{ReadFault, ApplyCause, LoadingCause, ReadFacts, reading_facts}
 use Rattle.tv_store.specs.Bodies.{RefusesAt, RefusesFile, RefusesFirst, ReadsGoodFile, AreBodies, AreSealed, ReadsSegment, ReadsSegments, FailsAt, AreGood}
-use Rattle.tv_store.specs.Kept.{KeptState, FileHolds, Holds}
+use Rattle.tv_catalog.specs.Kept.{KeptState}
+use Rattle.tv_store.specs.Kept.{FileHolds, Holds}
+use Rattle.tv_catalog.proofs.SharedLaws.{split_there}
 
 -- ---- why the body of a file isn't read
 
@@ -211,11 +212,6 @@ bodies_more reads kept s names i name body bodies more within at_i sealed held r
 pub refused_before : (first now : Reads) (path : List ℕ) (error : OpenReadError) → Same first now → RefusesAt now path error → RefusesAt first path error
 refused_before first now path error same h = record { bytes = h.bytes; there = sym (same path) ∙ h.there; why = h.why; no_body = h.no_body }
 
--- what stands at a place of a list, between what is before it and after it
-pub split_there : {A : Type 0} (xs : List A) (i : ℕ) (x : A) → i < length xs → x ≡ get_or xs i x → xs ≡ take i xs ++ x ∷ drop (i + 1) xs
-split_there xs i x within at_i =
-    sym (take-append-drop i xs) ∙ ap (λ (ys : List _). take i xs ++ ys) (drop_more xs i x within ∙ ap (λ (y : _). y ∷ drop (i + 1) xs) (sym at_i))
-
 -- one more can be read
 pub good_more : (reads : Reads) (names : List (List ℕ)) (i : ℕ) (name body : List ℕ) → i < length names → name ≡ get_or names i name → ReadsBody (reads name) body
     → ((n : List ℕ) → has (take i names) n ≡ true → ReadsGoodFile (reads n)) → (n : List ℕ) → has (take (i + 1) names) n ≡ true → ReadsGoodFile (reads n)
@@ -346,20 +342,3 @@ busy_before tells_locks held held2 start before {after} same quiet h = record {
   told = λ t. sym (same t) ∙ h.told t;
   untold = ⊎_map (λ t. t) (λ rose. subst (λ (x : ℕ). Rose x after) quiet rose) h.untold;
 }
-
--- ---- the steps
-
-pub mapped : {A B : Type 0} (f : A → B) (o : Option A) (b : B) → Some b ≡ option_map f o → (x : A) × (o ≡ Some x) × (b ≡ f x)
-mapped f None b e = absurd cc
-mapped f (Some x) b e = let same : b ≡ f x = cc in (x, refl, same)
-
--- a reload of a reader that is there reads the current commit
-pub reload_reads : (s : State) (number : ℕ) → IsSome (reader_at s.catalog number) → read_by s (events.Reload number) ≡ Some s.catalog.commit
-reload_reads s number there = told (reader_at s.catalog number) there where
-  told : (found : Option Reader) → IsSome found → option_map (λ (r : Reader). s.catalog.commit) found ≡ Some s.catalog.commit
-  told None h = absurd (true≢false (sym h))
-  told (Some reader) h = refl
-
--- the step of a reload of a reader that is there
-pub reloaded_step : (s : State) (number : ℕ) (reader : Reader) (bodies : List (List (List ℕ))) → reader_at s.catalog number ≡ Some reader → on_catalog s (reload_step s.catalog number bodies) ≡ on_catalog s (reloaded s.catalog number bodies reader)
-reloaded_step s number reader bodies there = rw there refl

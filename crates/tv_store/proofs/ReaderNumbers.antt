@@ -8,7 +8,7 @@ use Rattle.std.specs.declared.cmp.Ordering.{Ordering}
 use Rattle.std.specs.declared.cmp.Ordering.TheVariants.{Less, Equal, Greater}
 use Rattle.tv_formats.specs.Collections.{Collections}
 use Rattle.tv_machine.specs.State.{Reader, Readers, at_number}
-use Rattle.tv_store.specs.ReaderNumbers.{FewNumbers}
+use Rattle.tv_catalog.specs.ReaderNumbers.{FewNumbers}
 
 -- no reader gives its next snapshot a number above the bound
 abbrev AreFew : ℕ → List (ℕ × Reader) → Type 0

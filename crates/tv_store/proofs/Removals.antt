@@ -1,9 +1,8 @@
 -- Entries and names that are taken out: of maps, of sets, and of the open files.
-use Rattle.std.proofs.Common.{◌≡◌, true≢false, ℕ, suc, ◌+◌, ◌≤◌, ◌<◌, inl, inr, Bool, true, false, cond, not, ◌&&◌, ◌||◌, List, [], ◌∷◌, ◌++◌, map, length, get_or, drop, Option, Some, None, option_map, is_some, Result, Ok, refl, sym, ap, subst, ◌∙◌, arith}
+use Rattle.std.proofs.Common.{◌≡◌, true≢false, ℕ, suc, ◌+◌, ◌≤◌, inl, inr, Bool, true, false, cond, not, ◌&&◌, ◌||◌, List, [], ◌∷◌, ◌++◌, map, length, Option, Some, None, option_map, is_some, Result, Ok, refl, sym, ap, subst, ◌∙◌, arith}
 use Rattle.std.specs.Prelude.{Contains}
 use Rattle.std.specs.List.{AllByRecursion, filter, list_all, list_any}
 use Rattle.std.proofs.lemmas.Bool.{and_right, or_right}
-use Rattle.std.proofs.lemmas.List.{drop_more}
 use Rattle.std.proofs.lemmas.List.Elements.{All-filter}
 use Rattle.std.proofs.lemmas.List.Sums.{AllPass-from_list_all, list_all-from_AllPass}
 use Rattle.std.specs.Map.{remove_entry}
@@ -28,7 +27,8 @@ use Rattle.tv_store.specs.FileCalls.{TriesNames}
 use Rattle.tv_store.specs.declared.files.OpenFile.{OpenFile}
 use Rattle.tv_store.specs.OpenFiles.{AreThere, IsOpenFile}
 use Rattle.tv_store.proofs.KnownFiles.{left_there}
-use Rattle.tv_store.proofs.OpenFiles.{all_left, AreFiles, AreOpen, bodies, at_seen, with_known}
+use Rattle.tv_catalog.proofs.SharedLaws.{all_left}
+use Rattle.tv_store.proofs.OpenFiles.{AreFiles, AreOpen, bodies, at_seen, with_known}
 use Rattle.tv_store.proofs.CommitEvents.{all_at}
 
 -- ---- entries
@@ -57,10 +57,6 @@ all_still P xs (y ∷ ys) h k = (all_contained P xs y h k.0, all_still P xs ys h
 -- what is true of each entry is true of those that are left of them
 pub removed_still : {X : Type 0} (first es new : List (List ℕ × X)) (test : List ℕ → Bool) → new ≡ remove_entry test es → AllByRecursion (Contains first) es → AllByRecursion (Contains first) new
 removed_still first es new test cut h = subst (AllByRecursion (Contains first)) (sym cut) (all_left (Contains first) es test h)
-
--- the rest of a list begins with the element that comes next
-pub drop_here : {A : Type 0} (xs : List A) (i : ℕ) (x : A) → i < length xs → x ≡ get_or xs i x → drop i xs ≡ x ∷ drop (i + 1) xs
-drop_here {A} xs i x h is = drop_more xs i x h ∙ ap (λ (y : A). y ∷ drop (i + 1) xs) (sym is)
 
 -- entries but one that was taken out
 pub at_removed : {X : Type 0} (es : List (List ℕ × X)) (k q : List ℕ) → is_at (byte_cmp k) q ≡ false → at (remove_entry (is_at (byte_cmp k)) es) q ≡ at es q

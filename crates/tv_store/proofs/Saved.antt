@@ -29,16 +29,16 @@ use Rattle.tv_store.proofs.FilesHeld.{short_same}
 use Rattle.tv_store.proofs.Holding.{dotted_others, same_holds}
 use Rattle.tv_store.proofs.Listings.{undotted_isnt_list}
 use Rattle.tv_store.proofs.Performing.{asks_only, no_lock}
-use Rattle.tv_store.specs.Actions.{after, first_open, unless_open}
+use Rattle.tv_catalog.specs.Actions.{after, first_open, unless_open}
 use Rattle.tv_store.specs.Applying.{LeavesCommit, SavesPrinted}
 use Rattle.tv_store.specs.FileCalls.{Asked, KeepsOpenFiles}
 use Rattle.tv_store.specs.Kept.{FileHolds, FilesState, is_left, kept_of, names_below}
 use Rattle.tv_store.specs.Performing.{FilesHold, KeepsBy, Performs, Short}
-use Rattle.tv_store.specs.Plans.{SavesNext}
+use Rattle.tv_catalog.specs.Plans.{SavesNext}
 use Rattle.tv_store.specs.Stays.{KeepsDotted, KeepsFiles}
 use Rattle.tv_store.specs.StoreCauses.{EventCause}
-use Rattle.tv_store.specs.declared.action.Action.TheVariants as actions
-use Rattle.tv_store.specs.declared.action.Reply.TheVariants as replies
+use Rattle.tv_catalog.specs.declared.action.Action.TheVariants as actions
+use Rattle.tv_catalog.specs.declared.action.Reply.TheVariants as replies
 
 -- ---- which files are sealed
 

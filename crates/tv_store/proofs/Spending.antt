@@ -1,25 +1,16 @@
 -- Which of the numbers and lengths that an event makes it spends.
-use Rattle.std.proofs.Common.{◌≡◌, ◌⊎◌, List, ℕ, Some, None, inl, inr}
+use Rattle.std.proofs.Common.{◌≡◌, List, ℕ, Some, inl}
 use Rattle.tv_machine.specs.Machine.{catalog_step}
 use Rattle.tv_machine.specs.State.{Catalog, StepResult}
 use Rattle.tv_machine.specs.declared.event.Event.{Event}
 use Rattle.tv_machine.specs.declared.event.Event.TheVariants as events
-use Rattle.tv_store.specs.Exhausted.{IsExhausted, PassesEnd, SpendsSearcher}
-use Rattle.tv_store.specs.Kept.{KeptState}
+use Rattle.tv_catalog.specs.Exhausted.{IsExhausted, SpendsSearcher}
+use Rattle.tv_catalog.specs.Kept.{KeptState}
+use Rattle.tv_catalog.proofs.SharedLaws.{only_numbers}
 
 -- what an event's method calls spent is what makes the event exhausted
 abbrev pub IsSpentBy : (spent exhausted : Type 0) → Type 0
 IsSpentBy spent exhausted = (spent → exhausted) × (exhausted → spent)
-
--- an event that writes to no file makes no length
-pub only_numbers : {P : Type 0} → P ⊎ PassesEnd None → P
-only_numbers (inl p) = p
-only_numbers (inr (n, is, much)) = absurd cc
-
--- and one that gives no number none of these
-pub only_length : {P : Type 0} → ⊥ ⊎ P → P
-only_length (inl never) = absurd never
-only_length (inr p) = p
 
 -- an event whose searcher would get the last number is exhausted
 pub spends_searcher : (kept : KeptState) (event : Event) → SpendsSearcher kept.catalog event → IsExhausted kept event

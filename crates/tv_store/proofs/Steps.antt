@@ -6,8 +6,10 @@ use Rattle.tv_machine.specs.declared.event.Event.{Event}
 use Rattle.tv_machine.specs.declared.event.Event.TheVariants as events
 use Rattle.tv_base.specs.declared.error.TantivyError.{TantivyError}
 use Rattle.tv_base.specs.declared.error.TantivyError.TheVariants as errors
-use Rattle.tv_store.specs.Kept.{KeptState, StoreState, Holds, AtMost}
-use Rattle.tv_store.specs.Applying.{Stepped, StepsHeld, LeavesAlone, LeavesOldOrNew, MayNoteAt, SavesAt, WritesByStep}
+use Rattle.tv_catalog.specs.Kept.{KeptState}
+use Rattle.tv_store.specs.Kept.{StoreState, Holds, AtMost}
+use Rattle.tv_store.specs.Applying.{Stepped, StepsHeld, LeavesAlone, LeavesOldOrNew, MayNoteAt, SavesAt}
+use Rattle.tv_catalog.specs.Effects.{WritesByStep}
 use Rattle.tv_store.specs.ReadCauses.{LoadingCause, IsReadError, ReadFacts}
 use Rattle.tv_formats.specs.Commits.{IndexForm}
 use Rattle.tv_machine.specs.State.{State, StepResult}

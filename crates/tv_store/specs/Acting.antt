@@ -11,8 +11,8 @@ use Rattle.tv_machine.specs.SoundStates.{IsWhole}
 use Rattle.tv_machine.specs.State.{State, StepResult}
 use Rattle.tv_machine.specs.declared.event.Event.{Event}
 use Rattle.tv_store.specs.Kept.{StoreState, AtMost, IsHeld}
-use Rattle.tv_store.specs.ReaderNumbers.{FewNumbers}
-use Rattle.tv_store.specs.Effects.{written_by}
+use Rattle.tv_catalog.specs.ReaderNumbers.{FewNumbers}
+use Rattle.tv_catalog.specs.Effects.{written_by}
 use Rattle.tv_store.specs.Applying.{Stepped, ApplyFaults, KeepsLocks, LeavesOldOrNew, MayNoteAt}
 use Rattle.tv_store.specs.Stays.{Stays, KeepsDotted}
 

@@ -1,5 +1,5 @@
 -- An event, applied to a store that is open.
-use Rattle.std.specs.Prelude.{ℕ, ◌≡◌, ◌≢◌, ◌≤◌, ◌+◌, ◌⊎◌, Bool, true, false, List, [], Option, Some, None, IsSome, Result, IfErr, OnOk, OnErr, is_ok}
+use Rattle.std.specs.Prelude.{ℕ, ◌≡◌, ◌≢◌, ◌≤◌, ◌+◌, ◌⊎◌, Bool, true, false, List, Option, Some, IsSome, Result, IfErr, OnOk, OnErr, is_ok}
 use Rattle.tv_base.specs.declared.error.TantivyError.{TantivyError}
 use Rattle.tv_base.specs.declared.error.TantivyError.TheVariants as errors
 use Rattle.tv_base.specs.declared.open_errors.OpenReadError.{OpenReadError}
@@ -22,10 +22,11 @@ use Rattle.tv_machine.specs.SoundStates.{IsWhole}
 use Rattle.tv_machine.specs.Machine.{Turn, catalog_step, step, refused_in}
 use Rattle.tv_machine.specs.Readable.{ReadsGood, read_by}
 use Rattle.tv_managed.specs.Collecting.{meta_lock_name}
-use Rattle.tv_store.specs.Kept.{KeptState, StoreState, Holds, AtMost, IsHeld}
-use Rattle.tv_store.specs.Effects.{LoadsCommit, TakesMetaLock, length_after, written_by}
-use Rattle.tv_store.specs.Exhausted.{IsExhausted}
-use Rattle.tv_store.specs.ReaderNumbers.{FewNumbers}
+use Rattle.tv_catalog.specs.Kept.{KeptState}
+use Rattle.tv_store.specs.Kept.{StoreState, Holds, AtMost, IsHeld}
+use Rattle.tv_catalog.specs.Effects.{LoadsCommit, TakesMetaLock, written_by, WritesByStep}
+use Rattle.tv_catalog.specs.Exhausted.{IsExhausted}
+use Rattle.tv_catalog.specs.ReaderNumbers.{FewNumbers}
 use Rattle.tv_store.specs.Bodies.{MeetsBadFile}
 use Rattle.tv_store.specs.ReadCauses.{LoadingCause, IsReadError, ReadFacts}
 use Rattle.tv_store.specs.StoreCauses.{IsBusy}
@@ -50,12 +51,6 @@ abbrev pub SavesAt : {W : Type 0} → Event → IndexForm → (old new : View W)
 SavesAt (events.Commit payload ids) form old new before after =
     after ≢ before → SavesPrinted form old new after.catalog.commit
 SavesAt other form old new before after = Unit {0}
-
--- every event but a `write` of no bytes to an open file
-abbrev pub WritesByStep : KeptState → Event → Type 0
-WritesByStep kept (events.Write id component bytes) =
-    (bytes ≢ []) ⊎ (length_after kept (events.Write id component bytes) ≡ None)
-WritesByStep kept other = Unit {0}
 
 -- The state after this turn's step is held, and this is the step's answer; where its event reads a
 -- commit's files it could do so; where the step leaves the state as it was, each name reads what it read,

@@ -1,9 +1,8 @@
 -- What the calls on the files of a store do that collect some of them in steps.
-use Rattle.std.specs.Prelude.{ℕ, ◌≡◌, ◌<◌, ◌&&◌, ◌++◌, ◌∷◌, Bool, not, true, false, List, [], length, cond, Some, None}
-use Rattle.std.specs.Option.{IsSomeAnd}
+use Rattle.std.specs.Prelude.{ℕ, ◌≡◌, ◌&&◌, ◌++◌, ◌∷◌, Bool, not, true, false, List, [], cond, Some, None}
 use Rattle.tv_device.specs.View.{View}
 use Rattle.tv_device.specs.declared.directory.Directory.{Ghosts}
-use Rattle.tv_formats.specs.Collections.{Collection, Collections, collectable, collection_at, having_tried, held, with_begun, with_collection, without, without_collection}
+use Rattle.tv_formats.specs.Collections.{Collection, collectable, collection_at, having_tried, held, with_begun, with_collection, without, without_collection}
 use Rattle.tv_formats.specs.Files.{RoseBy}
 use Rattle.tv_formats.specs.Listing.{IsListFile, Listing}
 use Rattle.tv_machine.specs.Machine.{refused_in}
@@ -31,10 +30,6 @@ pub record KeepsUnlisted {O W : Type 0} (keeps : View W → View W → Type 0) (
     (old new : FilesState O) : Type 0 where
   pub rest : new ≡ record old { outside = new.outside; managed = new.managed; collections = new.collections }
   pub below : keeps (view old.outside) (view new.outside)
-
--- the collection of this number has names that are yet to be tried
-abbrev pub HasUntried : Collections → ℕ → Type 0
-HasUntried collections number = IsSomeAnd (collection_at collections number) (λ c. 0 < length c.untried)
 
 -- the names that are gone after one was tried
 abbrev pub gone_of : List ℕ → (is_done : Bool) → List (List ℕ)

@@ -12,12 +12,12 @@ use Rattle.tv_machine.specs.SoundStates.{IsWhole}
 use Rattle.tv_machine.specs.State.{SealedFile, State, file_at}
 use Rattle.tv_machine.specs.declared.event.Event.{Event}
 use Rattle.tv_managed.specs.Crashes.{AreListed, IsTracked}
-use Rattle.tv_store.specs.Actions.{Suits, after, reply_in}
+use Rattle.tv_catalog.specs.Actions.{Suits, after, reply_in}
 use Rattle.tv_store.specs.Kept.{FilesState, IsHeld, StoreState, kept_of, names_below}
 use Rattle.tv_store.specs.Performing.{FilesHold, SavedNone}
-use Rattle.tv_store.specs.Plans.{CanPerform}
-use Rattle.tv_store.specs.declared.action.Action.{Action}
-use Rattle.tv_store.specs.declared.action.Reply.{Reply}
+use Rattle.tv_catalog.specs.Plans.{CanPerform}
+use Rattle.tv_catalog.specs.declared.action.Action.{Action}
+use Rattle.tv_catalog.specs.declared.action.Reply.{Reply}
 
 -- A crash can't hurt the files of a store, which hold this state: the list forgets no file, and each managed
 -- name is on it, whatever a crash may leave of that. In each possible state `meta.json` means the current

@@ -11,16 +11,7 @@ use Rattle.tv_machine.specs.State.{Catalog, State, FileState, SealedFile, Open, 
 use Rattle.tv_machine.specs.Index.{IsFileOf}
 use Rattle.tv_device.specs.declared.directory.Directory.{Ghosts}
 use Rattle.tv_managed.specs.Names.{ManagedNames}
-
--- what a store keeps in memory: its index's settings and schema, the catalog, the managed names, the
--- unfinished collections, what was written to each open file, and the files that were left
-pub record KeptState : Type 0 where
-  pub form : IndexForm
-  pub catalog : Catalog
-  pub managed : List (List ℕ)
-  pub collections : Collections
-  pub open_files : List (List ℕ × List ℕ)
-  pub left : List (List ℕ)
+use Rattle.tv_catalog.specs.Kept.{KeptState, KnownState}
 
 -- how a store stands: whether the next event may be applied
 pub record Standing : Type 0 where
@@ -50,6 +41,16 @@ names_below files = (files.outside, record { managed = files.managed; collection
 abbrev pub kept_below : {O : Type 0} → StoreState O → O × ManagedNames
 kept_below store =
     (store.outside, record { managed = store.kept.managed; collections = store.kept.collections })
+
+-- what is known of the files of a store without asking the device
+abbrev pub known_of : {O : Type 0} → FilesState O → KnownState
+known_of files = record {
+  form = files.form;
+  managed = files.managed;
+  collections = files.collections;
+  open_files = files.open_files;
+  left = files.left;
+}
 
 -- what a store keeps of an index, with this catalog and these files
 abbrev pub kept_of : {O : Type 0} → Catalog → FilesState O → KeptState
@@ -97,8 +98,3 @@ IsHeld g store s = Holds (g.view store.outside).reads store.kept s
 -- no open file has more bytes than this
 abbrev pub AtMost : ℕ → KeptState → Type 0
 AtMost bound kept = AllByRecursion (λ e. length e.1 ≤ bound) kept.open_files
-
--- what became of a collection: the names that are gone, and those whose delete was refused
-pub record CollectedNames : Type 0 where
-  pub deleted : List (List ℕ)
-  pub failed : List (List ℕ)

@@ -1,6 +1,5 @@
 -- How an index is found and shown, or isn't.
-use Rattle.std.specs.Prelude.{ℕ, ◌≡◌, ◌⊎◌, true, List, [], map, Some, option_map, string_bytes, Result, IfErr, OnOk, OnErr}
-use Rattle.std.specs.List.Sorted.{IsStrictlySortedBy}
+use Rattle.std.specs.Prelude.{ℕ, ◌≡◌, ◌⊎◌, true, List, [], Some, option_map, string_bytes, Result, IfErr, OnOk, OnErr}
 use Rattle.tv_base.specs.declared.error.DataCorruption.{DataCorruption}
 use Rattle.tv_base.specs.declared.error.TantivyError.{TantivyError}
 use Rattle.tv_base.specs.declared.error.TantivyError.TheVariants as errors
@@ -15,8 +14,7 @@ use Rattle.tv_formats.specs.Files.{Reads, Rose, Same}
 use Rattle.tv_machine.specs.Index.{as_opened}
 use Rattle.tv_machine.specs.Lines.{opening_of}
 use Rattle.tv_formats.specs.Listing.{Listing}
-use Rattle.tv_formats.specs.Names.{byte_cmp, has, meta_name}
-use Rattle.tv_formats.specs.declared.segment.LiveSegment.{LiveSegment}
+use Rattle.tv_formats.specs.Names.{has, meta_name}
 use Rattle.tv_formats.specs.Schemas.{IsNoSchema, IsSchema}
 use Rattle.tv_formats.specs.Segments.{all_required}
 use Rattle.tv_machine.specs.State.{Catalog}
@@ -27,10 +25,6 @@ use Rattle.tv_store.specs.ReadCauses.{ApplyCause, reading_facts}
 use Rattle.tv_store.specs.Stays.{KeepsFiles}
 use Rattle.tv_store.specs.StoreCauses.{MakesNoFile, writer_lock_name}
 use Rattle.tv_store.specs.Telling.{TellsLine, TellsFirstPart, TellsNoLine}
-
--- the segments stand in the order of their ids, each once
-abbrev pub IsSorted : List (List ℕ × LiveSegment) → Type 0
-IsSorted segments = IsStrictlySortedBy byte_cmp (map (λ e. e.0) segments)
 
 -- What a refused opening leaves, under the schema that these bytes spell; where they spell none, everything
 -- reads as before.

@@ -16,17 +16,23 @@ use Rattle.tv_machine.specs.Readable.{CanRead}
 use Rattle.tv_machine.specs.SoundStates.{IsWhole}
 use Rattle.tv_machine.specs.State.{State}
 use Rattle.tv_managed.specs.Collecting.{meta_lock_name}
-use Rattle.tv_store.specs.Actions.{AppendsSome, MayGive, MayNoteBy, OnlyKeeps, SavesNoCommit, SpentBy, Suits, LocksMeta, TriesDeletes, added_by, after, given_by, reply_in}
+use Rattle.tv_catalog.specs.Actions.{AppendsSome, MayGive, OnlyKeeps, SavesNoCommit, SpentBy, Suits, LocksMeta, TriesDeletes, added_by, after, given_by, reply_in}
 use Rattle.tv_store.specs.Applying.{LeavesAlone, LeavesCommit, SavesPrinted, UnloadedFor}
 use Rattle.tv_store.specs.Bodies.{MeetsBadFile}
 use Rattle.tv_store.specs.Kept.{FilesState, Holds, kept_of}
 use Rattle.tv_store.specs.ReadCauses.{IsReadError, LoadingCause, ReadFacts, reading_facts}
 use Rattle.tv_store.specs.Stays.{KeepsDotted}
 use Rattle.tv_store.specs.StoreCauses.{IsBusy, LockingCause}
-use Rattle.tv_store.specs.declared.action.Action.{Action}
-use Rattle.tv_store.specs.declared.action.Action.TheVariants as actions
-use Rattle.tv_store.specs.declared.action.Reply.{Reply}
-use Rattle.tv_store.specs.declared.action.Reply.TheVariants as replies
+use Rattle.tv_catalog.specs.declared.action.Action.{Action}
+use Rattle.tv_catalog.specs.declared.action.Action.TheVariants as actions
+use Rattle.tv_catalog.specs.declared.action.Reply.{Reply}
+use Rattle.tv_catalog.specs.declared.action.Reply.TheVariants as replies
+use Rattle.tv_device.specs.Watch.{MayNote, WatchState}
+
+-- nobody was registered or called, and a notice of a commit comes only by a save
+abbrev pub MayNoteBy : Action → WatchState → WatchState → Type 0
+MayNoteBy (actions.Save commit text required) old new = MayNote meta_name old new
+MayNoteBy other old new = new ≡ old
 
 -- The files of a store hold this state of the machine, beside its catalog.
 abbrev pub FilesHold : {O W C : Type 0} → Ghosts O W C → FilesState O → State → Type 0

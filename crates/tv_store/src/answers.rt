@@ -1,24 +1,13 @@
 //! Answers, and the room that is made for them before the device is asked.
-ghost use Rattle.std.specs.Prelude.{◌≡◌, ◌<◌, [], ◌∷◌, true, length, codes, IfOk, OnOk};
+ghost use Rattle.std.specs.Prelude.{◌≡◌, ◌<◌, length, IfOk, OnOk};
 ghost use Rattle.tv_device.specs.Images.{KeepsDisk};
-ghost use Rattle.tv_machine.specs.Lines.{line};
-ghost use Rattle.tv_formats.specs.Files.{has_no_feed};
 ghost use Rattle.tv_store.specs.Stays.{AsksQuietly, AsksOrFails};
 
 use crate::index_store::IndexStore;
-use std::alloc::Global;
 use tv_base::TantivyError;
 use tv_device::Outside;
 use tv_formats::Memory;
 use tv_machine::Answer;
-
-// The answer to an event that changes nothing.
-pub(crate) fn refused(alloc: Global, word: &str) -> Result<Answer, Memory>
-    requires { has_no_feed word.now ≡ true }
-    ensures { IfOk result (λ answer. answer ≡ line (codes "refused") (word.now ∷ [])) }
-{
-    Answer::new(alloc, "refused")?.word(word.as_bytes())
-}
 
 impl<O: Outside> IndexStore<O> {
     // An answer in room that is made for it.

@@ -40,7 +40,7 @@ use tv_managed::ManagedWriter;
 #[derive(Drop)]
 pub(crate) struct OpenFile<D: Directory> {
     writer: ManagedWriter<D>,
-    len: u64,
+    pub(crate) len: u64,
 }
 
 /// An index and its open files. To a contract it is the directory, the index's settings and schema, the
@@ -150,20 +150,6 @@ impl<O: Outside> StoreFiles<O> {
         index.into_directory()
     }
 
-    /// The settings of the index.
-    pub(crate) fn settings(&self) -> &IndexSettings
-        ensures { settings_view result.now ≡ self.now.form.settings }
-    {
-        self.index.settings()
-    }
-
-    /// The schema of the index.
-    pub(crate) fn schema(&self) -> &Schema
-        ensures { result.now ≡ self.now.form.schema }
-    {
-        self.index.schema()
-    }
-
     /// The last commit, as `meta.json` has it.
     pub(crate) fn load_untracked_metas(
         &mut self,
@@ -178,24 +164,6 @@ impl<O: Outside> StoreFiles<O> {
             → KeepsDisk (O.disk self.old.outside) (O.disk self.new.outside) }
     {
         self.index.load_untracked_metas(alloc)
-    }
-
-    /// The managed names.
-    pub(crate) fn managed(&self) -> &BTreeSet<String>
-        ensures names { map string_bytes result.now.keys ≡ self.now.managed }
-        ensures plain { list_all is_plain self.now.managed ≡ true }
-    {
-        self.index.directory().list_managed_files()
-    }
-
-    /// How many bytes were written to a file, where it is open.
-    pub(crate) fn body_len(&self, name: &FileName) -> Option<u64>
-        ensures { result ≡ option_map length (at self.now.open_files name.now) }
-    {
-        match self.files.get(name) {
-            Some(file) => Some(file.len),
-            None => None,
-        }
     }
 
     /// Makes room for a line of this length.

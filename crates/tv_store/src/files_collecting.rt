@@ -8,9 +8,10 @@ ghost use Rattle.tv_formats.specs.Listing.{IsListFile, Listing};
 ghost use Rattle.tv_device.specs.View.{Kept, MayDelete, OnlyReads};
 ghost use Rattle.tv_managed.specs.Collecting.{texts_of};
 ghost use Rattle.tv_managed.specs.Crashes.{EndsSafely, LeavesSafely, SettlesStates, StepsSafely};
-ghost use Rattle.tv_store.specs.CollectingCalls.{BeginsCollection, FinishesCollection, HasUntried, KeepsUncollected, KeepsUnlisted, TriesNext};
-ghost use Rattle.tv_store.specs.Effects.{collection_after};
-ghost use Rattle.tv_store.specs.Exhausted.{SomePassesEnd};
+ghost use Rattle.tv_store.specs.CollectingCalls.{BeginsCollection, FinishesCollection, KeepsUncollected, KeepsUnlisted, TriesNext};
+ghost use Rattle.tv_catalog.specs.Kept.{HasUntried};
+ghost use Rattle.tv_catalog.specs.Effects.{collection_after};
+ghost use Rattle.tv_catalog.specs.Exhausted.{SomePassesEnd};
 ghost use Rattle.tv_store.specs.FileCalls.{Collects, GcFaults};
 ghost use Rattle.tv_store.specs.FileStates.{CollectsSafely};
 ghost use Rattle.tv_store.specs.Kept.{names_below};
@@ -20,34 +21,12 @@ ghost use Rattle.tv_store.specs.Stays.{EventFaults, KeepsAllButList, KeepsDotted
 use crate::files::StoreFiles;
 use std::alloc::Global;
 use std::collections::{BTreeMap, BTreeSet};
-use std::marker::Model;
 use std::mem;
 use tv_base::TantivyError;
+use tv_catalog::action::{Collected, TriedName};
 use tv_device::Outside;
 use tv_formats::{FileName, Memory};
 use tv_managed::CollectStep;
-
-/// A name that a collection tried, and whether it is done.
-#[derive(Drop)]
-pub(crate) struct TriedName {
-    pub(crate) name: FileName,
-    pub(crate) is_done: bool,
-}
-
-/// What became of a collection: the names that are gone, and those whose delete was refused.
-#[derive(Drop)]
-pub(crate) struct Collected {
-    pub(crate) deleted: Vec<FileName>,
-    pub(crate) failed: Vec<FileName>,
-}
-
-impl Model for Collected {
-    ghost use Rattle.tv_store.specs.Kept.{CollectedNames};
-
-    ghost Value = { CollectedNames };
-
-    ghost view = { λ a. record { deleted = a.deleted.items; failed = a.failed.items } };
-}
 
 // Names of files, from their texts, in a vector that is empty and has room for them. Takes no memory.
 fn file_names(room: Vec<FileName>, texts: Vec<String>) -> Vec<FileName>
@@ -108,49 +87,6 @@ fn leave_all<V: Drop>(
 }
 
 impl<O: Outside> StoreFiles<O> {
-    /// Whether an unfinished collection holds this name. Takes no memory.
-    pub(crate) fn is_held(&self, name: &FileName) -> bool
-        ensures { result ≡ has (held self.now.collections) name.now }
-    {
-        self.index.directory().is_held(name.as_str())
-    }
-
-    /// How many names a collection has yet to try, and nothing where no such collection is unfinished.
-    /// Takes no memory.
-    pub(crate) fn collect_left(&self, number: u64) -> Option<usize>
-        ensures { result ≡ option_map (λ c. length c.untried)
-            (collection_at self.now.collections number) }
-    {
-        self.index.directory().collect_left(number)
-    }
-
-    /// The number that the next collection gets. Takes no memory.
-    pub(crate) fn next_collection(&self) -> u64
-        ensures { result ≡ self.now.collections.next }
-    {
-        self.index.directory().next_collection()
-    }
-
-    /// The managed names that are neither among these nor held by an unfinished collection, in their order.
-    pub(crate) fn collectable(&self, living: &BTreeSet<String>) -> Result<Vec<&str>, Memory>
-        ensures { IfOk result (λ names. texts_of names.items
-            ≡ collectable (map string_bytes living.now.keys ++ held self.now.collections)
-            self.now.managed) }
-    {
-        self.index.directory().collectable(living)
-    }
-
-    /// How long the name is that an unfinished collection tries next. Takes no memory.
-    pub(crate) fn next_len(&self, number: u64) -> usize
-        requires { HasUntried self.now.collections number }
-        ensures len { (c : Collection) (name : List ℕ) (left : List (List ℕ))
-            → collection_at self.now.collections number ≡ Some c → c.untried ≡ name ∷ left
-            → result ≡ length name }
-        ensures few { result ≤ 255 }
-    {
-        self.index.directory().collect_next(number).len()
-    }
-
     /// Begins a collection of the managed files that aren't among these, and answers its number.
     pub(crate) fn collect_begin(&mut self, living: &BTreeSet<String>) -> Result<u64, TantivyError>
         requires { has (map string_bytes living.now.keys) meta_name ≡ true }

@@ -6,29 +6,15 @@
 //! writers of open files.
 #![tactic(auto)]
 
-mod action;
 mod answers;
-mod catalog;
-mod catalog_events;
-mod chosen;
-mod commit;
 mod files;
 mod files_collecting;
+mod files_known;
 mod index_store;
 pub mod laws;
-mod lines;
 mod loading;
-mod names;
 mod opening;
 mod perform;
-mod plan;
-mod plan_collections;
-mod plan_commit;
-mod plan_readers;
-mod plan_reports;
-mod plan_segments;
-mod readers;
-mod snapshot;
 
 pub use index_store::IndexStore;
 pub use tv_formats::{SegmentComponent, SegmentId};

@@ -13,12 +13,12 @@ ghost use Rattle.tv_store.specs.Performing.{FilesHold, LoadFaults};
 ghost use Rattle.tv_store.specs.SnapshotCalls.{BodiesFaults, CommitFaults};
 ghost use Rattle.tv_store.specs.Stays.{KeepsFiles};
 
-use crate::commit::Commit;
 use crate::files::StoreFiles;
-use crate::names::required_of;
-use crate::snapshot::{SegmentReader, Snapshot};
 use std::alloc::Global;
 use tv_base::{FileSlice, TantivyError};
+use tv_catalog::commit::Commit;
+use tv_catalog::names::required_of;
+use tv_catalog::snapshot::{SegmentReader, Snapshot};
 use tv_device::{Outside, meta_lock};
 use tv_formats::{FileName, LiveSegment, SegmentId};
 

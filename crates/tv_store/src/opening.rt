@@ -6,19 +6,20 @@ ghost use Rattle.tv_formats.specs.Commits.{IsCommit};
 ghost use Rattle.tv_formats.specs.Schemas.{IsSchema};
 ghost use Rattle.tv_machine.specs.Index.{IsFileOf, as_opened};
 ghost use Rattle.tv_metas.specs.Segments.{entry_of};
-ghost use Rattle.tv_store.specs.Making.{OpensCommit, ChecksFiles, FindsFiles, FindsNone, IsSorted};
+ghost use Rattle.tv_store.specs.Making.{OpensCommit, ChecksFiles, FindsFiles, FindsNone};
+ghost use Rattle.tv_catalog.specs.Committing.{IsSorted};
 ghost use Rattle.tv_store.specs.Opening.{OpensOrRefuses};
 ghost use Rattle.tv_store.specs.StoreCauses.{writer_lock_name};
 ghost use Rattle.tv_store.specs.Surviving.{SurvivesOpening};
 ghost use Rattle.tv_store.specs.UnderLock.{FindsUnderLock, IsUnderLock, LockedOut, RefusesLock};
 
-use crate::catalog::Catalog;
-use crate::commit::Commit;
 use crate::files::StoreFiles;
-use crate::names::required_files;
 use std::alloc::Global;
 use std::marker::Model;
 use tv_base::{LockError, TantivyError};
+use tv_catalog::catalog::Catalog;
+use tv_catalog::commit::Commit;
+use tv_catalog::names::required_files;
 use tv_device::{DirectoryLock, Outside, index_writer_lock};
 use tv_formats::{FileName, Memory, Opstamp};
 use tv_index::{

@@ -11,7 +11,8 @@ ghost use Rattle.tv_machine.specs.State.{Reader, live_at, no_readers, reader_at}
 ghost use Rattle.tv_formats.specs.declared.segment.LiveSegment.{LiveSegment};
 ghost use Rattle.tv_device.specs.View.{OnlyTells};
 ghost use Rattle.tv_index.specs.Saving.{saved_text};
-ghost use Rattle.tv_store.specs.Applying.{LeavesAlone, WritesByStep};
+ghost use Rattle.tv_store.specs.Applying.{LeavesAlone};
+ghost use Rattle.tv_catalog.specs.Effects.{WritesByStep};
 ghost use Rattle.tv_store.specs.EventLaws.{HasLiving, HoldsSome};
 ghost use Rattle.tv_store.specs.ReadCauses.{IsReadError};
 ghost use Rattle.tv_store.specs.SnapshotCalls.{ShowsMeta};

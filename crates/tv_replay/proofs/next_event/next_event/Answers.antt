@@ -6,7 +6,7 @@ use Rattle.hex.proofs.HexLemmas.{decode_of-ok}
 use Rattle.tv_machine.specs.declared.event.Event.{Event}
 use Rattle.tv_machine.specs.declared.event.Event.TheVariants as events
 use Rattle.tv_formats.specs.declared.segment.SegmentComponent.{SegmentComponent}
-use Rattle.tv_store.specs.Effects.{written_by}
+use Rattle.tv_catalog.specs.Effects.{written_by}
 
 -- the fourth of some words is within their line
 fourth_within : (a b c d : List ℕ) (words : List (List ℕ)) → length d ≤ length (join_with_byte 32 (a ∷ b ∷ c ∷ d ∷ words))

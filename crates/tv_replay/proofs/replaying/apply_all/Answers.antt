@@ -4,16 +4,16 @@ use Rattle.tv_machine.specs.Machine.{after}
 use Rattle.tv_formats.specs.Names.{meta_name}
 use Rattle.tv_formats.specs.Files.{Rose}
 use Rattle.tv_store.specs.Applying.{event_facts}
-use Rattle.tv_store.specs.Exhausted.{IsExhausted}
+use Rattle.tv_catalog.specs.Exhausted.{IsExhausted}
 use Rattle.tv_machine.specs.Living.{is_busy}
 use Rattle.tv_replay.proofs.KeptLocks.{same_locks}
-use Rattle.tv_store.specs.Effects.{LoadsCommit, TakesMetaLock}
+use Rattle.tv_catalog.specs.Effects.{LoadsCommit, TakesMetaLock}
 use Rattle.tv_replay.specs.ScriptLines.{IsNoEvent, IsTooLong, pending}
 use Rattle.std.proofs.lemmas.Result.{err_from_is_err_and, IfErr-weaker, on_ok_weaker}
 use Rattle.tv_machine.specs.Script.{line_limit}
 use Rattle.tv_replay.specs.AppliedEvents.{FailsRun, run_causes}
 use Rattle.tv_store.specs.Kept.{AtMost}
-use Rattle.tv_store.specs.ReaderNumbers.{FewNumbers}
+use Rattle.tv_catalog.specs.ReaderNumbers.{FewNumbers}
 use Rattle.tv_managed.specs.Collecting.{meta_lock_name}
 use Rattle.tv_replay.proofs.Progress.{begins_next}
 use Rattle.tv_replay.proofs.Stopping.{stops_between, stops_in, event_stops, script_stops, end_stops, refused_next, nothing_ahead, busy_since}

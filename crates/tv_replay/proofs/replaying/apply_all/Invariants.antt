@@ -1,7 +1,7 @@
 use Rattle.std.proofs.Common.{◌≡◌, ◌≤◌, ◌+◌, ◌*◌, length, true}
 use Rattle.tv_machine.specs.Script.{line_limit}
 use Rattle.tv_store.specs.Kept.{AtMost}
-use Rattle.tv_store.specs.ReaderNumbers.{FewNumbers}
+use Rattle.tv_catalog.specs.ReaderNumbers.{FewNumbers}
 use Rattle.tv_replay.specs.Replays.{IsQuietAt, ReplayFrame}
 use Rattle.tv_replay.specs.ScriptLines.{pending}
 use Rattle.tv_replay.proofs.AppliedEvents.{Progress}

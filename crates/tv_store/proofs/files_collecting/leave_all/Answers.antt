@@ -1,10 +1,9 @@
 use Rattle.std.proofs.Common.{rules, ◌≡◌, ◌||◌, ◌∷◌, [], ℕ, List, map, arith, sym, ap, ◌∙◌}
-use Rattle.std.proofs.lemmas.List.{map-append}
+use Rattle.std.proofs.lemmas.List.{map-append, map-id}
 use Rattle.std.proofs.lemmas.Map.Iter.{iter_end}
 use Rattle.tv_formats.specs.Names.{has}
 use Rattle.tv_formats.proofs.CollectedNames.{has_append}
 use Rattle.tv_formats.proofs.Entries.{has_put}
-use Rattle.std.proofs.lemmas.List.{map-id}
 use Rattle.tv_store.proofs.Removals.{has_keys}
 use Rattle.tv_store.proofs.files_collecting.leave_all.Goals as goal
 

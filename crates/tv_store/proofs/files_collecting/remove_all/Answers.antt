@@ -1,7 +1,8 @@
 use Rattle.std.proofs.Common.{◌+◌, drop, refl, arith}
 use Rattle.std.specs.BTreeMap.{is_at}
 use Rattle.tv_formats.specs.Names.{byte_cmp}
-use Rattle.tv_store.proofs.Removals.{contains_itself, one_gone, removed_still, drop_here}
+use Rattle.tv_store.proofs.Removals.{contains_itself, one_gone, removed_still}
+use Rattle.tv_catalog.proofs.SharedLaws.{drop_here}
 use Rattle.tv_store.proofs.files_collecting.remove_all.Goals as goal
 
 pub loop-name-init : goal.loop-name-init

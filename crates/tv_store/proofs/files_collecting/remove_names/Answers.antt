@@ -1,5 +1,6 @@
 use Rattle.std.proofs.Common.{drop, arith, ◌+◌}
-use Rattle.tv_store.proofs.Removals.{drop_here, one_out}
+use Rattle.tv_catalog.proofs.SharedLaws.{drop_here}
+use Rattle.tv_store.proofs.Removals.{one_out}
 use Rattle.tv_store.proofs.files_collecting.remove_names.Goals as goal
 
 pub loop-name-preserved : goal.loop-name-preserved

@@ -14,7 +14,7 @@ use Rattle.tv_store.specs.Making.{ChecksFiles}
 use Rattle.tv_store.specs.Stays.{KeepsFiles}
 use Rattle.tv_store.specs.Telling.{TellsFirstPart, TellsLine, TellsNoLine}
 use Rattle.tv_store.proofs.CheckedFiles.{files_then, line_is, required_is, room_reads, tells_behind, unasked, unbegun}
-use Rattle.tv_store.proofs.CommitEvents.{all_required_are_files}
+use Rattle.tv_catalog.proofs.SharedLaws.{all_required_are_files}
 use Rattle.tv_store.proofs.opening.begin.Goals as goal
 
 pub check_files-requires : goal.check_files-requires

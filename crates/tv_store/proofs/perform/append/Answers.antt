@@ -1,15 +1,14 @@
-use Rattle.std.proofs.Common.{rules, refl, [], ◌≡◌, ◌++◌, List, ℕ, Some, length, option_map, subst, sym, ap}
+use Rattle.std.proofs.Common.{rules, refl, [], ◌≡◌, ◌++◌, List, ℕ, Some, length, option_map, subst, sym, ap, Ok}
 use Rattle.std.specs.BTreeMap.{is_at}
 use Rattle.std.specs.Map.{set_value}
 use Rattle.tv_formats.specs.Names.{at, byte_cmp}
 use Rattle.tv_store.proofs.FilesHeld.{bytes_added, short_closed, short_same, short_written, some_body}
 use Rattle.tv_store.proofs.Performing.{as_made, on_one_file}
-use Rattle.std.proofs.Common.{Ok}
 use Rattle.tv_formats.proofs.Results.{no_answer}
 use Rattle.tv_machine.specs.FileEvents.{written_to}
 use Rattle.tv_machine.specs.State.{file_at}
 use Rattle.tv_store.proofs.DurableFiles.{added_stored, wrote_keeps}
-use Rattle.tv_store.specs.declared.action.Reply.TheVariants as replies
+use Rattle.tv_catalog.specs.declared.action.Reply.TheVariants as replies
 use Rattle.tv_store.proofs.perform.append.Goals as goal
 
 pub returns-in_err-write-clause-performs : goal.returns-in_err-write-clause-performs

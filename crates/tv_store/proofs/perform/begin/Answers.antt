@@ -8,10 +8,10 @@ use Rattle.tv_store.proofs.CollectingEvents.{begun_holds}
 use Rattle.tv_store.proofs.CollectionEvents.{takes_garbage}
 use Rattle.tv_store.proofs.FilesHeld.{short_same}
 use Rattle.tv_store.proofs.Performing.{came_undeleted, on_read}
-use Rattle.tv_store.specs.Actions.{taken_beside}
+use Rattle.tv_catalog.specs.Actions.{taken_beside}
 use Rattle.tv_store.specs.Performing.{FilesHold}
-use Rattle.tv_store.specs.declared.action.Action.TheVariants as actions
-use Rattle.tv_store.specs.declared.action.Reply.TheVariants as replies
+use Rattle.tv_catalog.specs.declared.action.Action.TheVariants as actions
+use Rattle.tv_catalog.specs.declared.action.Reply.TheVariants as replies
 use Rattle.tv_formats.proofs.Results.{no_answer}
 use Rattle.tv_store.proofs.DurableFiles.{begun_stored}
 use Rattle.tv_store.proofs.perform.begin.Goals as goal

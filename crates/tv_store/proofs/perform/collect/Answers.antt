@@ -9,11 +9,11 @@ use Rattle.tv_store.proofs.CollectionEvents.{collected, refusals_rose, takes_gar
 use Rattle.tv_store.proofs.FilesHeld.{short_same}
 use Rattle.tv_store.proofs.Performing.{kept_by_deletes, on_files}
 use Rattle.tv_store.proofs.Listings.{undotted_isnt_list}
-use Rattle.tv_store.specs.Actions.{taken_beside}
-use Rattle.tv_store.specs.Kept.{CollectedNames}
+use Rattle.tv_catalog.specs.Actions.{taken_beside}
+use Rattle.tv_catalog.specs.Kept.{CollectedNames}
 use Rattle.tv_store.specs.Performing.{FilesHold}
-use Rattle.tv_store.specs.declared.action.Action.TheVariants as actions
-use Rattle.tv_store.specs.declared.action.Reply.TheVariants as replies
+use Rattle.tv_catalog.specs.declared.action.Action.TheVariants as actions
+use Rattle.tv_catalog.specs.declared.action.Reply.TheVariants as replies
 use Rattle.tv_formats.proofs.Results.{no_answer, no_ok}
 use Rattle.tv_store.specs.Kept.{names_below}
 use Rattle.tv_store.proofs.DurableCollections.{collected_stored, deleted_keeps, done_spares}

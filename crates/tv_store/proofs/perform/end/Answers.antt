@@ -6,10 +6,10 @@ use Rattle.tv_store.proofs.CollectingEvents.{ended_holds, found_there}
 use Rattle.tv_store.proofs.FilesHeld.{short_same}
 use Rattle.tv_store.proofs.Listings.{undotted_isnt_list}
 use Rattle.tv_store.proofs.Performing.{came_undeleted, kept_by, on_files, plain_faults}
-use Rattle.tv_store.specs.Actions.{after_end}
+use Rattle.tv_catalog.specs.Actions.{after_end}
 use Rattle.tv_store.specs.Performing.{FilesHold}
-use Rattle.tv_store.specs.declared.action.Action.TheVariants as actions
-use Rattle.tv_store.specs.declared.action.Reply.TheVariants as replies
+use Rattle.tv_catalog.specs.declared.action.Action.TheVariants as actions
+use Rattle.tv_catalog.specs.declared.action.Reply.TheVariants as replies
 use Rattle.tv_formats.proofs.Options.{some_value}
 use Rattle.tv_formats.proofs.Results.{no_answer, no_ok}
 use Rattle.tv_store.proofs.DurableCollections.{ended_keeps, ended_stored}

@@ -7,7 +7,7 @@ use Rattle.tv_formats.specs.Names.{at, has}
 use Rattle.tv_machine.specs.Index.{IsFileOf}
 use Rattle.tv_machine.specs.ReportEvents.{intact_at}
 use Rattle.tv_machine.specs.State.{file_at}
-use Rattle.tv_store.proofs.AnswerRoom.{words_len}
+use Rattle.tv_catalog.proofs.SharedLaws.{words_len}
 use Rattle.tv_store.proofs.Asking.{kept_by_files}
 use Rattle.tv_store.proofs.Holding.{same_holds}
 use Rattle.tv_store.proofs.ReportEvents.{held_intact}

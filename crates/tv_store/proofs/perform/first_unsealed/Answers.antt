@@ -8,7 +8,7 @@ use Rattle.tv_machine.specs.Index.{IsFileOf}
 use Rattle.tv_store.proofs.CheckedFiles.{files_then}
 use Rattle.tv_store.proofs.KeptFiles.{fails_after}
 use Rattle.tv_store.proofs.Saved.{has_behind, has_first, open_first, sealed_first, sealed_so}
-use Rattle.tv_store.specs.Actions.{first_open}
+use Rattle.tv_catalog.specs.Actions.{first_open}
 use Rattle.tv_store.specs.Stays.{KeepsFiles}
 use Rattle.tv_device.specs.Images.{KeepsDisk}
 use Rattle.tv_managed.specs.TrackLaws.{keeps_then}

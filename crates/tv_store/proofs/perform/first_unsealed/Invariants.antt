@@ -6,7 +6,7 @@ use Rattle.tv_device.specs.View.{OnlyReads}
 use Rattle.tv_formats.specs.Names.{has}
 use Rattle.tv_machine.specs.Index.{IsFileOf}
 use Rattle.tv_machine.specs.State.{State}
-use Rattle.tv_store.specs.Actions.{first_open}
+use Rattle.tv_catalog.specs.Actions.{first_open}
 use Rattle.tv_store.specs.Performing.{FilesHold}
 use Rattle.tv_store.specs.Stays.{KeepsFiles}
 use Rattle.tv_store.proofs.perform.first_unsealed.Given as goal

@@ -2,8 +2,8 @@ use Rattle.std.proofs.Common.{ap, refl}
 use Rattle.std.proofs.lemmas.Result.{err_from_is_err_and}
 use Rattle.tv_machine.specs.State.{Snapshot}
 use Rattle.tv_store.proofs.Performing.{asks_only}
-use Rattle.tv_store.specs.declared.action.Action.TheVariants as actions
-use Rattle.tv_store.specs.declared.action.Reply.TheVariants as replies
+use Rattle.tv_catalog.specs.declared.action.Action.TheVariants as actions
+use Rattle.tv_catalog.specs.declared.action.Reply.TheVariants as replies
 use Rattle.tv_formats.proofs.Results.{no_answer}
 use Rattle.tv_store.proofs.Durable.{asked_stored, keeps_all}
 use Rattle.tv_store.proofs.perform.load_commit.Goals as goal

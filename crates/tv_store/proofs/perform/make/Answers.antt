@@ -1,11 +1,10 @@
-use Rattle.std.proofs.Common.{rules, inl, inr, refl, []}
+use Rattle.std.proofs.Common.{rules, inl, inr, refl, [], Ok}
 use Rattle.tv_store.proofs.FilesHeld.{file_made, name_taken, short_opened, short_same}
 use Rattle.tv_store.proofs.Performing.{on_one_file}
-use Rattle.std.proofs.Common.{Ok}
 use Rattle.tv_formats.proofs.Results.{no_answer}
 use Rattle.tv_store.proofs.Durable.{keeps_all}
 use Rattle.tv_store.proofs.DurableFiles.{made_keeps, made_stored}
-use Rattle.tv_store.specs.declared.action.Reply.TheVariants as replies
+use Rattle.tv_catalog.specs.declared.action.Reply.TheVariants as replies
 use Rattle.tv_store.proofs.perform.make.Goals as goal
 
 pub returns-then-branch-clause-performs : goal.returns-then-branch-clause-performs

@@ -2,8 +2,8 @@ use Rattle.std.proofs.Common.{Ok, refl, sym, subst, arith}
 use Rattle.tv_store.proofs.FilesHeld.{short_same}
 use Rattle.tv_store.proofs.Performing.{memory_only}
 use Rattle.tv_store.specs.Performing.{Performs}
-use Rattle.tv_store.specs.declared.action.Action.TheVariants as actions
-use Rattle.tv_store.specs.declared.action.Reply.TheVariants as replies
+use Rattle.tv_catalog.specs.declared.action.Action.TheVariants as actions
+use Rattle.tv_catalog.specs.declared.action.Reply.TheVariants as replies
 use Rattle.tv_store.proofs.Durable.{keeps_all, untouched_stored}
 use Rattle.tv_store.specs.Durable.{PerformsSafely}
 use Rattle.tv_store.proofs.perform.perform.Goals as goal

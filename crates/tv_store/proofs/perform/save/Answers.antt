@@ -1,15 +1,14 @@
-use Rattle.std.proofs.Common.{◌≡◌, [], None, true, refl, ap, sym, subst, ◌∙◌}
+use Rattle.std.proofs.Common.{◌≡◌, [], None, true, refl, ap, sym, subst, ◌∙◌, Ok}
 use Rattle.std.specs.Prelude.{IfSome}
 use Rattle.std.proofs.lemmas.Result.{err_from_is_err_and}
 use Rattle.tv_formats.specs.Names.{has}
 use Rattle.tv_store.proofs.Saved.{saved, still_held, unasked, unsaved, unsealed}
-use Rattle.std.proofs.Common.{Ok}
 use Rattle.tv_formats.proofs.Results.{handed_on, no_answer}
 use Rattle.tv_store.proofs.Durable.{asked_stored, keeps_all}
 use Rattle.tv_store.proofs.DurableCommits.{all_sealed, later_stored, save_means, saved_stored, unsaved_stored}
-use Rattle.tv_store.specs.Actions.{first_open, unless_open}
-use Rattle.tv_store.specs.declared.action.Action.TheVariants as actions
-use Rattle.tv_store.specs.declared.action.Reply.TheVariants as replies
+use Rattle.tv_catalog.specs.Actions.{first_open, unless_open}
+use Rattle.tv_catalog.specs.declared.action.Action.TheVariants as actions
+use Rattle.tv_catalog.specs.declared.action.Reply.TheVariants as replies
 use Rattle.tv_store.proofs.perform.save.Goals as goal
 
 pub returns-in_err-name-clause-performs : goal.returns-in_err-name-clause-performs

@@ -1,10 +1,8 @@
-use Rattle.std.proofs.Common.{rules, [], refl}
+use Rattle.std.proofs.Common.{rules, [], refl, ◌∙◌}
 use Rattle.tv_formats.specs.Names.{at}
-use Rattle.tv_store.proofs.FilesHeld.{file_sealed, short_closed, short_same, some_body}
+use Rattle.tv_store.proofs.FilesHeld.{file_sealed, short_closed, short_same, some_body, written_is}
 use Rattle.tv_store.proofs.Performing.{as_made, on_one_file}
-use Rattle.std.proofs.Common.{◌∙◌}
 use Rattle.tv_machine.specs.State.{file_at}
-use Rattle.tv_store.proofs.FilesHeld.{written_is}
 use Rattle.tv_store.proofs.DurableFiles.{sealed_stored, unsealed_stored}
 use Rattle.tv_store.proofs.perform.seal.Goals as goal
 

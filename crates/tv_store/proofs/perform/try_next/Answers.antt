@@ -6,10 +6,10 @@ use Rattle.tv_store.proofs.Changed.{tried_less}
 use Rattle.tv_store.proofs.CollectingEvents.{found_there, stepped_holds}
 use Rattle.tv_store.proofs.FilesHeld.{short_same}
 use Rattle.tv_store.proofs.Performing.{kept_by_deletes, on_files, plain_faults}
-use Rattle.tv_store.specs.Actions.{after_one, after_tried, tried_in, tried_of}
+use Rattle.tv_catalog.specs.Actions.{after_one, after_tried, tried_in, tried_of}
 use Rattle.tv_store.specs.Performing.{FilesHold}
-use Rattle.tv_store.specs.declared.action.Action.TheVariants as actions
-use Rattle.tv_store.specs.declared.action.Reply.TheVariants as replies
+use Rattle.tv_catalog.specs.declared.action.Action.TheVariants as actions
+use Rattle.tv_catalog.specs.declared.action.Reply.TheVariants as replies
 use Rattle.tv_formats.proofs.Results.{no_answer}
 use Rattle.tv_store.proofs.Durable.{KeepsSealed}
 use Rattle.tv_store.proofs.DurableCollections.{next_name, tried_keeps, tried_stored}

@@ -2,7 +2,7 @@ use Rattle.std.proofs.Common.{refl}
 use Rattle.std.proofs.lemmas.Result.{IfOk-weaker}
 use Rattle.tv_store.proofs.Performing.{asks_only, plain_faults}
 use Rattle.tv_store.proofs.ValidatedFiles.{unsaved_report}
-use Rattle.tv_store.specs.declared.action.Action.TheVariants as actions
+use Rattle.tv_catalog.specs.declared.action.Action.TheVariants as actions
 use Rattle.tv_store.proofs.Durable.{any_answer, asked_stored, keeps_all, untouched_stored}
 use Rattle.tv_formats.proofs.Results.{no_answer}
 use Rattle.tv_store.proofs.perform.validate.Goals as goal

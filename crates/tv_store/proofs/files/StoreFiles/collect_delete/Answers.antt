@@ -2,16 +2,15 @@ use Rattle.std.proofs.Common.{[], ◌∷◌, not, ◌&&◌, refl, sym, ap, subst
 use Rattle.tv_formats.specs.Collections.{held}
 use Rattle.tv_formats.specs.Names.{has, meta_name, at}
 use Rattle.tv_formats.proofs.PlainNames.{plain_is_file_name}
-use Rattle.tv_managed.specs.Collecting.{tried_name}
+use Rattle.tv_managed.specs.Collecting.{tried_name, is_done}
 use Rattle.tv_managed.specs.declared.collection.CollectStep.TheVariants as steps
-use Rattle.tv_store.specs.CollectingCalls.{HasUntried}
+use Rattle.tv_catalog.specs.Kept.{HasUntried}
 use Rattle.tv_store.specs.Kept.{names_below}
 use Rattle.tv_store.proofs.CollectingFiles.{next_keeps_dotted, next_others, next_spares, next_writers, tried_next, tries_so}
 use Rattle.tv_store.specs.OpenFiles.{AreThere}
 use Rattle.tv_store.proofs.KnownFiles.{left_there, same_there, still_there}
 use Rattle.tv_store.proofs.OpenFiles.{AreOpen}
 use Rattle.tv_store.proofs.Removals.{bodies_gone, collected_open, contains_itself, lens_left, one_out}
-use Rattle.tv_managed.specs.Collecting.{is_done}
 use Rattle.tv_store.proofs.FileStates.{tried_below, untried_below}
 use Rattle.tv_store.proofs.files.StoreFiles.collect_delete.Goals as goal
 

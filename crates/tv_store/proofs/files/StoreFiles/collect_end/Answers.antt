@@ -1,16 +1,14 @@
-use Rattle.std.proofs.Common.{◌≡◌, rules, sym, ap, subst, ◌∙◌}
+use Rattle.std.proofs.Common.{◌≡◌, rules, sym, ap, subst, ◌∙◌, Ok}
 use Rattle.tv_formats.specs.Collections.{held}
 use Rattle.tv_formats.specs.Files.{Rose}
 use Rattle.tv_formats.specs.Names.{has, meta_name}
-use Rattle.tv_formats.proofs.Results.{handed_on}
+use Rattle.tv_formats.proofs.Results.{handed_on, no_ok}
 use Rattle.tv_store.specs.StoreCauses.{EventCause}
 use Rattle.tv_store.specs.Kept.{names_below}
 use Rattle.tv_store.proofs.CollectingFiles.{end_cause, end_spares, ends_so}
 use Rattle.tv_store.specs.OpenFiles.{AreThere}
 use Rattle.tv_store.proofs.KnownFiles.{beside_list, still_there}
 use Rattle.tv_store.proofs.OpenFiles.{still_open, AreOpen}
-use Rattle.std.proofs.Common.{Ok}
-use Rattle.tv_formats.proofs.Results.{no_ok}
 use Rattle.tv_store.proofs.FileStates.{ended_below}
 use Rattle.tv_store.proofs.files.StoreFiles.collect_end.Goals as goal
 

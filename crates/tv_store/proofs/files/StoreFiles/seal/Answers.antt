@@ -1,9 +1,8 @@
-use Rattle.std.proofs.Common.{refl, sym, ap, subst, ◌∙◌}
+use Rattle.std.proofs.Common.{refl, sym, ap, subst, ◌∙◌, Ok}
 use Rattle.tv_device.specs.View.{Kept}
 use Rattle.tv_store.proofs.KeptFiles.{io_fails, kept_managed}
 use Rattle.tv_store.proofs.KnownFiles.{beside_there, may_know, sealed_there}
 use Rattle.tv_store.proofs.OpenFiles.{still_files, left_files, with_known, there_is, found_open, must_be_open, same_body_is, isnt_open, bodies_left, others_kept, sealed_is, AreFiles}
-use Rattle.std.proofs.Common.{Ok}
 use Rattle.tv_store.specs.Kept.{names_below}
 use Rattle.tv_formats.proofs.Results.{no_ok}
 use Rattle.tv_store.proofs.FileStates.{isnt_list_name, sealed_below}

@@ -7,8 +7,8 @@ use Rattle.tv_device.specs.Images.{KeepsDisk}
 use Rattle.tv_device.specs.View.{OnlyReads}
 use Rattle.tv_store.specs.Acting.{Acts}
 use Rattle.tv_store.specs.Applying.{AsksNoFile}
-use Rattle.tv_store.specs.Exhausted.{SpendsSearcher}
-use Rattle.tv_store.specs.Catalogs.{CatalogCause}
+use Rattle.tv_catalog.specs.Exhausted.{SpendsSearcher}
+use Rattle.tv_catalog.specs.Catalogs.{CatalogCause}
 use Rattle.tv_store.specs.Durable.{ActsSafely, IsDurable, store_files}
 use Rattle.tv_store.specs.Kept.{IsHeld, Standing, kept_of}
 use Rattle.tv_store.proofs.ActsPlanned.{store_of}

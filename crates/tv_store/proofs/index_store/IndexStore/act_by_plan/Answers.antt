@@ -2,7 +2,7 @@ use Rattle.std.proofs.Common.{◌<◌, ◌≤◌, Err, Ok, length, rules, sym, s
 use Rattle.std.proofs.lemmas.Result.{err_from_is_err_and}
 use Rattle.tv_base.specs.declared.error.TantivyError.TheVariants as errors
 use Rattle.tv_store.specs.Acting.{Acts}
-use Rattle.tv_store.specs.Plans.{CanPerform}
+use Rattle.tv_catalog.specs.Plans.{CanPerform}
 use Rattle.tv_store.proofs.ActsPlanned.{answered, saved_none, store_of, unperformed, unplanned, unready, unsettled}
 use Rattle.tv_store.proofs.Asking.{asked_files, kept_by_files}
 use Rattle.tv_store.proofs.DurableActs.{durable_after, leaves_behind, performed_acts, unplanned_acts, unready_acts}

@@ -1,0 +1,17 @@
+pub mod SharedLaws
+pub mod LivingNames
+pub mod FileNames
+pub mod Named
+pub mod Planned
+pub mod PlannedCollections
+pub mod PlannedCommit
+pub mod PlannedSegments
+pub mod ChosenSegments
+pub mod CommitEvents
+pub mod Spending
+pub mod ReaderEvents
+pub mod PlannedReaders
+pub mod ReportEvents
+pub mod OpenedCatalogs
+pub mod AnswerRoom
+pub mod ValidatedFiles

@@ -1,0 +1,10 @@
+pub mod Kept
+pub mod Effects
+pub mod Exhausted
+pub mod Choosing
+pub mod Catalogs
+pub mod ReaderNumbers
+pub mod SearcherLines
+pub mod Committing
+pub mod Actions
+pub mod Plans

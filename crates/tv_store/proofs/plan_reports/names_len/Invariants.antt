@@ -1,6 +1,0 @@
-use Rattle.std.proofs.Common.{◌≡◌, take}
-use Rattle.tv_store.proofs.AnswerRoom.{words_len}
-use Rattle.tv_store.proofs.plan_reports.names_len.Given as goal
-
-abbrev pub invariant-loop-name : goal.invariant-loop-name
-invariant-loop-name l = l.len ≡ words_len (take l.name-index l.names)
