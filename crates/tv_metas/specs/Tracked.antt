@@ -25,9 +25,10 @@ KeptMetas = List (Entry InnerSegmentMeta)
 abbrev pub inner_of : List ℕ × LiveSegment → InnerSegmentMeta
 inner_of e = record { segment_id = e.0; max_doc = e.1.max_doc; deletes = e.1.deletes }
 
--- no more documents of it are deleted than there are
-abbrev pub IsWithin : Entry InnerSegmentMeta → Type 0
-IsWithin e = num_deleted e.value.deletes ≤ e.value.max_doc
+-- No more documents of a segment are deleted than there are, and a share of it is out.
+pub record IsShared (e : Entry InnerSegmentMeta) : Type 0 where
+  pub within : num_deleted e.value.deletes ≤ e.value.max_doc
+  pub out : 1 ≤ e.count
 
 -- a share of a segment that is kept
 abbrev pub share_of : Entry InnerSegmentMeta → Share
@@ -61,10 +62,11 @@ pub record Retracks (former : ℕ) (segment : List ℕ × LiveSegment) (old new 
   pub entries : new ≡ released former (tracked share.0 (inner_of segment) old)
   pub same : share.1 ≡ segment
 
--- one more share of it is out
+-- One more share of it is out. Given back, all is as it was.
 pub record Shares (share : Share) (old new : KeptMetas) (other : Share) : Type 0 where
   pub same : other ≡ share
   pub entries : new ≡ change_at (is_numbered share.0) one_more old
+  pub undone : released share.0 new ≡ old
 
 -- segments were taken in one after the other
 abbrev pub TrackAll : List Share → (old new : KeptMetas) → Type 0

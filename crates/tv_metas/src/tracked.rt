@@ -8,7 +8,7 @@ ghost use Rattle.tv_formats.specs.Listing.{IsListFile};
 ghost use Rattle.tv_formats.specs.Segments.{segment_names, delete_opstamp, name_of, num_deleted, num_docs};
 ghost use Rattle.tv_formats.specs.Names.{has};
 ghost use Rattle.tv_metas.specs.Segments.{entry_of};
-ghost use Rattle.tv_metas.specs.Tracked.{IsWithin, Retracks, ShareAllCause, Shares, Tracks, file_of, has_id, share_of};
+ghost use Rattle.tv_metas.specs.Tracked.{IsShared, Retracks, ShareAllCause, Shares, Tracks, file_of, has_id, share_of};
 
 use crate::naming::{push_names, set_of};
 use crate::segment_meta::InnerSegmentMeta;
@@ -207,13 +207,13 @@ pub struct SegmentMetaInventory {
 
 impl Model for SegmentMetaInventory {
     ghost use Rattle.std.specs.Prelude.{All};
-    ghost use Rattle.tv_metas.specs.Tracked.{IsWithin, KeptMetas};
+    ghost use Rattle.tv_metas.specs.Tracked.{IsShared, KeptMetas};
 
     ghost Value = { KeptMetas };
 
     ghost view = { λ a. a.segments.entries };
 
-    ghost invariant = { λ a. All IsWithin a.segments.entries };
+    ghost invariant = { λ a. All IsShared a.segments.entries };
 }
 
 impl SegmentMetaInventory {
@@ -318,7 +318,7 @@ impl SegmentMetaInventory {
 
 // A share of each of these segments, which no ticket counts so far.
 fn shares_of(alloc: Global, entries: &[Entry<InnerSegmentMeta>]) -> Result<Vec<SegmentMeta>, Memory>
-    requires { All IsWithin entries.now }
+    requires { All IsShared entries.now }
     ensures { IfOk result (λ shares. shares.items ≡ map share_of entries.now) }
 {
     let mut shares = Vec::with_capacity(alloc, entries.len())?;

@@ -33,6 +33,8 @@ mod desks;
 #[cfg(test)]
 mod empty;
 #[cfg(test)]
+mod entries;
+#[cfg(test)]
 mod error_texts;
 #[cfg(test)]
 mod failing;
@@ -72,6 +74,8 @@ mod opening_crashes;
 mod places;
 #[cfg(test)]
 mod ram;
+#[cfg(test)]
+mod registers;
 #[cfg(test)]
 mod replayed_folders;
 #[cfg(test)]

@@ -1,0 +1,5 @@
+pub mod Chosen
+pub mod Shares
+pub mod Removed
+pub mod PutBack
+pub mod Looked

@@ -1,0 +1,6 @@
+use Rattle.std.proofs.Common.{◌≡◌, ◌++◌, map}
+use Rattle.tv_registers.specs.Registers.{entries_in}
+use Rattle.tv_registers.proofs.choosing.choose_all.Given as goal
+
+abbrev pub invariant-loop-entry : goal.invariant-loop-entry
+invariant-loop-entry l = map (λ c. c.now) l.chosen.items ≡ map (λ c. c.now) l.fn.chosen.items ++ entries_in (map (λ e. (e.0.now, e.1.now)) l.yielded)

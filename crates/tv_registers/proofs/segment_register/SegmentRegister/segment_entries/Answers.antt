@@ -1,0 +1,12 @@
+use Rattle.std.proofs.Common.{rules, ◌≡◌, ℕ, List, map, ap, subst, ◌∙◌}
+use Rattle.tv_registers.specs.Registers.{entries_in, ticket_of}
+use Rattle.tv_registers.specs.Sharing.{SharesEach}
+use Rattle.tv_registers.proofs.Shares.{tickets_of_entries}
+use Rattle.tv_registers.proofs.segment_register.SegmentRegister.segment_entries.Goals as goal
+
+pub returns-clause-shares : goal.returns-clause-shares
+returns-clause-shares c =
+    let register = c.args.self.now in
+    let chosen : map (λ m. m.now) c.as_slice.result.now ≡ entries_in register = search rules in
+    subst (λ (numbers : List ℕ). SharesEach numbers c.args.inventory.now c.share_each.new.inventory c.share_each.result)
+    (ap (map ticket_of) chosen ∙ tickets_of_entries register) c.share_each.ensures.shares

@@ -1,0 +1,5 @@
+pub mod BitSets
+pub mod Sharing
+pub mod Registers
+pub mod Managers
+pub mod Merges
