@@ -1,5 +1,4 @@
 pub mod VInts
-pub mod VisitLaws
 mod VIntRows
-pub mod CountLaws
+pub mod KeyedLaws
 pub mod Tracked

@@ -32,10 +32,6 @@ one_more e = record e { count = e.count + 1 }
 abbrev pub one_fewer : {T : Type 0} → Entry T → Entry T
 one_fewer e = record e { count = e.count - 1 }
 
--- an entry before and after one more share of it was counted, where that can be
-abbrev pub MayCount : {T : Type 0} → Entry T → Entry T → Type 0
-MayCount e f = is_full e ≡ false → f ≡ one_more e
-
 -- at most one share of it is out
 abbrev pub is_last : {T : Type 0} → Option (Entry T) → Bool
 is_last None = false

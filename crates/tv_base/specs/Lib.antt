@@ -6,6 +6,7 @@ pub mod Writers
 pub mod Places
 pub mod PlaceLaws
 pub mod Entries
+pub mod Keyed
 pub mod EntryLaws
 pub mod Visits
 pub mod Futures

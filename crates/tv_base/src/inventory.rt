@@ -2,12 +2,18 @@
 ghost use Rattle.std.specs.Prelude.{◌≡◌, ◌<◌, ◌+◌, ℕ, [], ◌↔◌, None, true, All, IfOk, IfSome, IsSome, IsErr, OnOk, OnErr, MatchOption, find, map, position, vec_len};
 ghost use Rattle.std.specs.List.{AllZip, list_any};
 ghost use Rattle.std.specs.Option.{IsSomeAnd};
-ghost use Rattle.tv_base.specs.Entries.{IsFull, MayCount, is_numbered, is_full, one_more, released, tracked};
-ghost use Rattle.tv_base.specs.Places.{IsAbsent, IsPlace, change_at};
-ghost use Rattle.tv_base.specs.Visits.{IsCountedAt, IsVisited, IsVisitedAt};
+ghost use Rattle.tv_base.specs.Entries.{IsFull, is_full, is_last, is_numbered, one_more, released, tracked};
+ghost use Rattle.std.specs.Map.{values_of};
+ghost use Rattle.std.specs.Map.Iter.{ShowsInOrder, deref};
+ghost use Rattle.std.specs.Option.{option_copied};
+ghost use Rattle.tv_base.specs.Keyed.{counted, keyed};
+ghost use Rattle.tv_base.specs.Places.{change_at};
+ghost use Rattle.tv_base.specs.Visits.{IsVisited};
 
 use crate::exhausted::Exhausted;
 use std::alloc::Global;
+use std::collections::BTreeMap;
+use std::collections::btree_map::Values;
 use std::marker::Model;
 use tv_formats::Memory;
 
@@ -69,19 +75,24 @@ pub struct Entry<T> {
 /// the number that the next value gets.
 #[derive(Drop)]
 pub struct Inventory<T> {
+    alloc: Global,
     next: u64,
-    entries: Vec<Entry<T>>,
+    // Numbers rise, so the order of the keys is that of tracking.
+    entries: BTreeMap<u64, Entry<T>>,
 }
 
 impl<T> Model for Inventory<T> {
-    ghost use Rattle.std.specs.Prelude.{◌<◌, All};
+    ghost use Rattle.std.specs.Prelude.{◌≡◌, ◌<◌, All};
+    ghost use Rattle.std.specs.Map.{values_of};
     ghost use Rattle.tv_base.specs.Entries.{InventoryState};
+    ghost use Rattle.tv_base.specs.Keyed.{keyed};
 
     ghost Value = { InventoryState T };
 
-    ghost view = { λ a. record { next = a.next; entries = a.entries.items } };
+    ghost view = { λ a. record { next = a.next; entries = values_of a.entries.entries } };
 
-    ghost invariant = { λ a. All (λ e. e.number < a.next) a.entries.items };
+    ghost invariant = { λ a. (a.entries.entries ≡ keyed (values_of a.entries.entries))
+        × All (λ e. e.number < a.next) (values_of a.entries.entries) };
 }
 
 impl<T> Inventory<T> {
@@ -90,8 +101,9 @@ impl<T> Inventory<T> {
         ensures empty { result ≡ record { next = 0; entries = [] } }
     {
         Inventory {
+            alloc,
             next: 0,
-            entries: Vec::new(alloc),
+            entries: BTreeMap::new(alloc),
         }
     }
 }
@@ -112,11 +124,7 @@ impl<T: Drop> Inventory<T> {
         if number == u64::MAX {
             return Err(Memory);
         }
-        self.entries.push(Entry {
-            number,
-            count: 1,
-            value,
-        })?;
+        put_last(&mut self.entries, number, value)?;
         self.next = number + 1;
         Ok(Ticket { number })
     }
@@ -141,11 +149,10 @@ impl<T: Drop> Inventory<T> {
         ensures value { IfSome (find (is_numbered t.now) self.now.entries)
             (λ e. result.now ≡ e.value) }
     {
-        let number = t.number;
-        let Some(i) = place_of(&self.entries, number) else {
+        let Some(entry) = find_entry(&self.entries, t.number) else {
             unreachable!()
         };
-        &self.entries[i].value
+        &entry.value
     }
 
     /// Gives a ticket back. With the last one the value is dropped; its number isn't given again. A
@@ -161,8 +168,8 @@ impl<T: Drop> Inventory<T> {
         ensures values { IfOk result
             (λ values. map (λ v. v.now) values.items ≡ map (λ e. e.value) self.now.entries) }
     {
-        let mut values = Vec::new(*self.entries.allocator());
-        for e in &self.entries {
+        let mut values = Vec::new(self.alloc);
+        for e in self.entries.values() {
             values.push(&e.value)?;
         }
         Ok(values)
@@ -170,11 +177,12 @@ impl<T: Drop> Inventory<T> {
 
     /// The values with their numbers, and how many tickets of each are out, in the order in which
     /// they were tracked. Each number is below the next one. Takes no memory.
-    pub fn entries(&self) -> &[Entry<T>]
-        ensures entries { result.now ≡ self.now.entries }
+    pub fn entries(&self) -> Values<'_, u64, Entry<T>>
+        ensures entries { result ≡ self.now.entries }
+        ensures runs { ShowsInOrder (deref {X = Entry T}) }
         ensures below { All (λ e. e.number < self.now.next) self.now.entries }
     {
-        self.entries.as_slice()
+        self.entries.values()
     }
 
     /// One more ticket of each value is out. Where one has as many as can be counted, none has a
@@ -194,7 +202,7 @@ impl<T: Drop> Inventory<T> {
     }
 }
 
-impl<T: Visit> Inventory<T> {
+impl<T: Visit + Drop> Inventory<T> {
     /// Visits each value once, in the order in which they were tracked.
     pub fn visit_all(&mut self)
         ensures visited { AllZip (IsVisited T.visited) self.old.entries self.new.entries }
@@ -204,34 +212,47 @@ impl<T: Visit> Inventory<T> {
     }
 }
 
-// The index of the first entry of a number.
-fn position_of<T>(entries: &Vec<Entry<T>>, number: u64) -> Option<usize>
-    ensures { result ≡ position (is_numbered number) entries.now.items }
+// The entry of a number, if there is one.
+fn find_entry<T>(entries: &BTreeMap<u64, Entry<T>>, number: u64) -> Option<&Entry<T>>
+    requires { entries.now.entries ≡ keyed (values_of entries.now.entries) }
+    ensures { option_copied result ≡ find (is_numbered number) (values_of entries.now.entries) }
 {
-    entries.iter().position(|e| e.number == number)
+    entries.get(&number)
 }
 
-// The same index, and what stands there.
-fn place_of<T>(entries: &Vec<Entry<T>>, number: u64) -> Option<usize>
-    ensures { MatchOption result (IsAbsent (is_numbered number) entries.now.items)
-        (IsPlace (is_numbered number) entries.now.items) }
+// Puts a value in under a number above all others. One share of it is out.
+fn put_last<T: Drop>(
+    entries: &mut BTreeMap<u64, Entry<T>>,
+    number: u64,
+    value: T,
+) -> Result<(), Memory>
+    requires keyed { entries.old.entries ≡ keyed (values_of entries.old.entries) }
+    requires below { All (λ e. e.number < number) (values_of entries.old.entries) }
+    ensures ok { OnOk result (entries.new.entries
+        ≡ keyed (tracked number value (values_of entries.old.entries))) }
+    ensures err { OnErr result (entries.new.entries ≡ entries.old.entries) }
 {
-    position_of(entries, number)
+    let entry = Entry {
+        number,
+        count: 1,
+        value,
+    };
+    entries.insert(number, entry)?;
+    Ok(())
 }
 
-// One share more of the entry of a number, if there is one. The numbers stay.
-fn count_more<T>(entries: &mut Vec<Entry<T>>, number: u64) -> Result<(), Exhausted>
-    ensures ok { OnOk result
-        (entries.new.items ≡ change_at (is_numbered number) one_more entries.old.items) }
-    ensures err { OnErr result (entries.new.items ≡ entries.old.items) }
-    ensures full { IsErr result ↔ IsSomeAnd (find (is_numbered number) entries.old.items) IsFull }
-    ensures below { (n : ℕ) → All (λ e. e.number < n) entries.old.items
-        → All (λ e. e.number < n) entries.new.items }
+// One share more of the entry of a number, if there is one.
+fn count_more<T>(entries: &mut BTreeMap<u64, Entry<T>>, number: u64) -> Result<(), Exhausted>
+    requires { entries.old.entries ≡ keyed (values_of entries.old.entries) }
+    ensures ok { OnOk result (entries.new.entries
+        ≡ keyed (change_at (is_numbered number) one_more (values_of entries.old.entries))) }
+    ensures err { OnErr result (entries.new.entries ≡ entries.old.entries) }
+    ensures full { IsErr result
+        ↔ IsSomeAnd (find (is_numbered number) (values_of entries.old.entries)) IsFull }
 {
-    let Some(i) = place_of(entries, number) else {
+    let Some(entry) = entries.get_mut(&number) else {
         return Ok(());
     };
-    let entry = &mut entries[i];
     if entry.count == u64::MAX {
         return Err(Exhausted);
     }
@@ -239,62 +260,57 @@ fn count_more<T>(entries: &mut Vec<Entry<T>>, number: u64) -> Result<(), Exhaust
     Ok(())
 }
 
-// One share less of the entry of a number, if there is one. With the last one it is dropped.
-fn count_less<T: Drop>(entries: &mut Vec<Entry<T>>, number: u64)
-    ensures released { entries.new.items ≡ released number entries.old.items }
-    ensures below { (n : ℕ) → All (λ e. e.number < n) entries.old.items
-        → All (λ e. e.number < n) entries.new.items }
+// Whether at most one share of the entry of a number is out.
+fn has_last<T>(entries: &BTreeMap<u64, Entry<T>>, number: u64) -> bool
+    requires { entries.now.entries ≡ keyed (values_of entries.now.entries) }
+    ensures { result ≡ is_last (find (is_numbered number) (values_of entries.now.entries)) }
 {
-    let Some(i) = place_of(entries, number) else {
-        return;
-    };
-    if entries[i].count < 2 {
-        drop(entries.remove(i));
-        return;
+    match find_entry(entries, number) {
+        Some(entry) => entry.count < 2,
+        None => false,
     }
-    let entry = &mut entries[i];
-    entry.count -= 1;
+}
+
+// One share less of the entry of a number, if there is one. With the last one it is dropped.
+fn count_less<T: Drop>(entries: &mut BTreeMap<u64, Entry<T>>, number: u64)
+    requires { entries.old.entries ≡ keyed (values_of entries.old.entries) }
+    ensures { entries.new.entries ≡ keyed (released number (values_of entries.old.entries)) }
+{
+    if has_last(entries, number) {
+        entries.remove(&number);
+    } else if let Some(entry) = entries.get_mut(&number) {
+        entry.count -= 1;
+    }
 }
 
 // Whether one of the entries has as many shares as can be counted.
-fn has_full<T>(entries: &Vec<Entry<T>>) -> bool
-    ensures { result ≡ list_any is_full entries.now.items }
+fn has_full<T>(entries: &BTreeMap<u64, Entry<T>>) -> bool
+    ensures { result ≡ list_any is_full (values_of entries.now.entries) }
 {
-    entries.iter().any(|e| e.count == u64::MAX)
-}
-
-// One share more of the entry at an index, where it can be counted.
-fn count_at<T>(entries: &mut Vec<Entry<T>>, i: usize)
-    requires { i < vec_len entries.old }
-    ensures { IsCountedAt i entries.old.items entries.new.items }
-{
-    let entry = &mut entries[i];
-    entry.count = entry.count.saturating_add(1);
+    entries.values().any(|e| e.count == u64::MAX)
 }
 
 // One share more of each entry, where it can be counted.
-fn count_each<T>(entries: &mut Vec<Entry<T>>)
-    ensures { AllZip MayCount entries.old.items entries.new.items }
+fn count_each<T: Drop>(entries: &mut BTreeMap<u64, Entry<T>>)
+    ensures { entries.new.entries ≡ map (λ p. (p.0, counted p.1)) entries.old.entries }
 {
-    for i in 0..entries.len() {
-        count_at(entries, i);
-    }
-}
-
-// Visits one value.
-fn visit_at<T: Visit>(entries: &mut Vec<Entry<T>>, i: usize)
-    requires { i < vec_len entries.old }
-    ensures { IsVisitedAt T.visited i entries.old.items entries.new.items }
-{
-    let entry = &mut entries[i];
-    entry.value.visit();
+    // All are retained: this is the walk through a map that tells what is written.
+    entries.retain(|_, entry| {
+        entry.count = entry.count.saturating_add(1);
+        true
+    });
 }
 
 // Visits each value once, in order.
-fn visit_entries<T: Visit>(entries: &mut Vec<Entry<T>>)
-    ensures { AllZip (IsVisited T.visited) entries.old.items entries.new.items }
+fn visit_entries<T: Visit + Drop>(entries: &mut BTreeMap<u64, Entry<T>>)
+    requires { entries.old.entries ≡ keyed (values_of entries.old.entries) }
+    ensures keyed { entries.new.entries ≡ keyed (values_of entries.new.entries) }
+    ensures visited { AllZip (IsVisited T.visited)
+        (values_of entries.old.entries) (values_of entries.new.entries) }
 {
-    for i in 0..entries.len() {
-        visit_at(entries, i);
-    }
+    // All are retained: this is the walk through a map that tells what is written.
+    entries.retain(|_, entry| {
+        entry.value.visit();
+        true
+    });
 }

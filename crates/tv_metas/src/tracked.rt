@@ -15,7 +15,7 @@ use crate::segment_meta::InnerSegmentMeta;
 use std::alloc::Global;
 use std::collections::BTreeSet;
 use std::marker::Model;
-use tv_base::{Entry, Exhausted, Inventory, Opstamp, TantivyError, Ticket};
+use tv_base::{Exhausted, Inventory, Opstamp, TantivyError, Ticket};
 use tv_formats::{
     DeleteMeta, FileName, LiveSegment, Memory, SegmentComponent, SegmentId, segment_file_name,
 };
@@ -274,7 +274,7 @@ impl SegmentMetaInventory {
         ensures cause { MatchResult result (λ _. list_any is_full self.old ≡ false)
             (ShareAllCause self.old) }
     {
-        let shares = shares_of(alloc, self.segments.entries())?;
+        let shares = shares_of(alloc, &self.segments)?;
         match self.segments.share_all() {
             Ok(()) => Ok(shares),
             Err(Exhausted) => Err(TantivyError::Exhausted),
@@ -285,10 +285,7 @@ impl SegmentMetaInventory {
     pub fn has_id(&self, id: SegmentId) -> bool
         ensures { result ≡ has_id self.now id }
     {
-        self.segments
-            .entries()
-            .iter()
-            .any(|e| e.value.segment_id == id)
+        self.segments.entries().any(|e| e.value.segment_id == id)
     }
 
     // Takes a segment in.
@@ -317,10 +314,14 @@ impl SegmentMetaInventory {
 }
 
 // A share of each of these segments, which no ticket counts so far.
-fn shares_of(alloc: Global, entries: &[Entry<InnerSegmentMeta>]) -> Result<Vec<SegmentMeta>, Memory>
-    requires { All IsShared entries.now }
-    ensures { IfOk result (λ shares. shares.items ≡ map share_of entries.now) }
+fn shares_of(
+    alloc: Global,
+    segments: &Inventory<InnerSegmentMeta>,
+) -> Result<Vec<SegmentMeta>, Memory>
+    requires { All IsShared segments.now.entries }
+    ensures { IfOk result (λ shares. shares.items ≡ map share_of segments.now.entries) }
 {
+    let entries = segments.entries();
     let mut shares = Vec::with_capacity(alloc, entries.len())?;
     for entry in entries {
         shares.push(SegmentMeta {

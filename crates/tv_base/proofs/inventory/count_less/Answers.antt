@@ -1,25 +1,26 @@
-use Rattle.std.proofs.Common.{◌∙◌}
-use Rattle.tv_base.specs.EntryLaws.{below_lessened, below_without, lessened, taken_out, untouched}
+use Rattle.std.proofs.Common.{rules, Some, arith, refl, sym}
+use Rattle.tv_base.specs.Entries.{one_fewer}
+use Rattle.tv_base.proofs.KeyedLaws.{changed, lessened, looked, taken, twice, unchanged}
 use Rattle.tv_base.proofs.inventory.count_less.Goals as goal
 
-pub returns-in_default-clause-released : goal.returns-in_default-clause-released
-returns-in_default-clause-released g c = untouched c.args.number c.args.entries.now.items c.in_default.ensures
+pub overflow_sub-entry : goal.overflow_sub-entry
+overflow_sub-entry g c =
+    let two = twice _ c.in-Some.entry.now
+    (looked c.args.number c.args.entries.now.entries (Some c.in-Some.entry.now) c.requires c.in-Some.ensures.value)
+    (sym c.if-has_last.ensures) in
+    grind (arith, two)
 
-pub returns-in_default-clause-below : goal.returns-in_default-clause-below
-returns-in_default-clause-below g c = λ n below. below
+pub returns-then-has_last : goal.returns-then-has_last
+returns-then-has_last g c =
+    taken c.args.number c.args.entries.now.entries _ c.requires (sym c.if-has_last.ensures) c.remove.ensures.entries
 
-pub returns-then-index-lt2-clause-released : goal.returns-then-index-lt2-clause-released
-returns-then-index-lt2-clause-released g c =
-    c.remove.ensures.items ∙ taken_out c.args.number c.in-Some.ensures c.index.ensures c.if-index-lt2.true
+pub returns-in-Some : goal.returns-in-Some
+returns-in-Some g c =
+    lessened c.args.number c.args.entries.now.entries _ (sym c.if-has_last.ensures)
+    (changed one_fewer (λ e. refl) c.args.number c.args.entries.now.entries _ c.requires c.in-Some.entry.now c.in-Some.ensures.value
+    (c.get_mut.follows.holds (one_fewer c.in-Some.entry.now)).0)
 
-pub returns-then-index-lt2-clause-below : goal.returns-then-index-lt2-clause-below
-returns-then-index-lt2-clause-below g c = λ n below.
-    rw c.remove.ensures.items (below_without n c.args.entries.now.items c.in-Some.i below)
-
-pub returns-clause-released : goal.returns-clause-released
-returns-clause-released g c =
-    lessened c.args.number c.in-Some.ensures c.index.ensures c.if-index-lt2.false c.index_mut-entry.ensures.value
-
-pub returns-clause-below : goal.returns-clause-below
-returns-clause-below g c = λ n below.
-    below_lessened n c.args.entries.now.items c.in-Some.i c.in-Some.ensures.inside c.index_mut-entry.ensures.value below
+pub returns-in_default : goal.returns-in_default
+returns-in_default g c =
+    lessened c.args.number c.args.entries.now.entries _ (sym c.if-has_last.ensures)
+    (unchanged one_fewer (λ e. refl) c.args.number c.args.entries.now.entries _ c.requires c.in_default.ensures.value (search rules))

@@ -1,13 +1,11 @@
-use Rattle.std.proofs.Common.{rules, length-set}
-use Rattle.tv_base.specs.Visits.{IsVisited}
-use Rattle.tv_base.proofs.VisitLaws.{step, done}
+use Rattle.std.proofs.Common.{rules}
+use Rattle.tv_base.proofs.KeyedLaws.{visited_each}
 use Rattle.tv_base.proofs.inventory.visit_entries.Goals as goal
 
-pub loop-i-preserved : goal.loop-i-preserved
-loop-i-preserved g c =
-    let one = c.visit_at.ensures in
-    rw one.set (step (IsVisited g.T.Visit.visited) c.loop-i.i _ _ one.before one.after c.loop-i.invariant.0 (search rules) one.stood one.visited, search (rules, length-set))
+pub returns-clause-keyed : goal.returns-clause-keyed
+returns-clause-keyed g c =
+    (visited_each g.T.Visit.visited _ (λ f k v b w f' t. search rules) _ _ _ c.retain.ensures.filtered c.requires).0
 
-pub returns : goal.returns
-returns g c =
-    done (IsVisited g.T.Visit.visited) c.loop-i.i _ _ c.loop-i.invariant.0 (search rules)
+pub returns-clause-visited : goal.returns-clause-visited
+returns-clause-visited g c =
+    (visited_each g.T.Visit.visited _ (λ f k v b w f' t. search rules) _ _ _ c.retain.ensures.filtered c.requires).1

@@ -1,8 +1,0 @@
-use Rattle.std.proofs.Common.{◌≡◌, length}
-use Rattle.tv_base.specs.Visits.{IsVisited}
-use Rattle.tv_base.proofs.VisitLaws.{UpTo}
-use Rattle.tv_base.proofs.inventory.visit_entries.Given as goal
-
-abbrev pub invariant-loop-i : goal.invariant-loop-i
-invariant-loop-i g l =
-    UpTo (IsVisited g.T.Visit.visited) l.i l.initial.entries.items l.entries.items × (length l.entries.items ≡ length l.initial.entries.items)
