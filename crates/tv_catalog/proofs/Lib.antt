@@ -7,6 +7,8 @@ pub mod PlannedCollections
 pub mod PlannedCommit
 pub mod PlannedSegments
 pub mod ChosenSegments
+pub mod Registered
+pub mod Shareable
 pub mod CommitEvents
 pub mod Spending
 pub mod ReaderEvents

@@ -23,16 +23,17 @@ use crate::snapshot::Snapshot;
 use std::alloc::Global;
 use std::collections::{BTreeMap, BTreeSet};
 use std::marker::Model;
+use tv_base::{Exhausted, Stamper};
 use tv_formats::{DeleteMeta, FileName, LiveSegment, Memory, Opstamp, SegmentComponent, SegmentId};
 use tv_machine::ReloadPolicy;
 use tv_metas::naming::{has_name, shared_names};
 
-/// The live segments, the number that the next commit gets, the current commit, and who reads.
+/// The live segments, what draws the number of the next commit, the current commit, and who reads.
 #[derive(Drop)]
 pub struct Catalog {
     pub alloc: Global,
     pub live: BTreeMap<SegmentId, LiveSegment>,
-    pub next: Opstamp,
+    pub stamper: Stamper,
     pub commit: Commit,
     pub readers: Readers,
 }
@@ -44,7 +45,7 @@ impl Model for Catalog {
 
     ghost view = { λ a. record {
       live = a.live.entries;
-      next = a.next;
+      next = a.stamper;
       commit = a.commit;
       reading = a.readers;
     } };
@@ -68,7 +69,7 @@ impl Catalog {
         Catalog {
             alloc,
             live,
-            next,
+            stamper: Stamper::new(next),
             commit,
             readers: Readers::new(alloc),
         }
@@ -94,7 +95,7 @@ impl Catalog {
     pub fn next_opstamp(&self) -> Opstamp
         ensures { result ≡ self.now.next }
     {
-        self.next
+        self.stamper.next()
     }
 
     /// The current commit. Takes no memory.
@@ -110,7 +111,19 @@ impl Catalog {
         ensures { self.new ≡ record self.old { next = self.old.next + 1; commit = commit } }
     {
         self.commit = commit;
-        self.next += 1;
+        self.draw();
+    }
+
+    // Draws the next stamp. Takes no memory.
+    fn draw(&mut self) -> Opstamp
+        requires { self.old.next < last_stamp }
+        ensures stamp { result ≡ self.old.next }
+        ensures drawn { self.new ≡ record self.old { next = self.old.next + 1 } }
+    {
+        match self.stamper.stamp() {
+            Ok(stamp) => stamp,
+            Err(Exhausted) => unreachable!(),
+        }
     }
 
     // So many documents of a live segment are deleted, and the next stamp is drawn for them.
@@ -121,7 +134,7 @@ impl Catalog {
     {
         let deletes = Some(self.next_deletes(n));
         self.live.insert(id, LiveSegment { deletes, ..segment })?;
-        self.next += 1;
+        self.draw();
         Ok(())
     }
 
@@ -132,7 +145,7 @@ impl Catalog {
         ensures { self.new ≡ as_opened self.old }
     {
         self.live = segments;
-        self.next = self.commit.next_opstamp();
+        self.stamper.revert(self.commit.next_opstamp());
         self.readers = Readers::new(self.alloc);
     }
 
@@ -198,7 +211,7 @@ impl Catalog {
     {
         DeleteMeta {
             num_deleted_docs,
-            opstamp: self.next,
+            opstamp: self.next_opstamp(),
         }
     }
 

@@ -21,4 +21,5 @@ mod plan_readers;
 mod plan_reports;
 mod plan_segments;
 mod readers;
+mod registers;
 pub mod snapshot;
