@@ -7,10 +7,10 @@ ghost use Rattle.tv_formats.specs.Names.{is_file_name};
 use crate::calls::{Call, take, tell};
 use crate::compare::{are_made, is_number};
 use crate::empty::{TestBench, refusing};
-use crate::told::told;
 use std::alloc::Global;
 use std::process::Abort;
 use tv_directory::Outside;
+use tv_test_support::told;
 
 // What is done with the directory.
 #[derive(Clone, Copy)]

@@ -3,11 +3,11 @@ ghost use Rattle.std.specs.Prelude.{◌≡◌, true, false};
 ghost use Rattle.tv_formats.specs.Names.{is_file_name};
 ghost use Rattle.tv_formats.specs.Files.{has_no_feed};
 
-use crate::told::{done, reads, told, whole};
 use std::alloc::Global;
 use std::process::Abort;
 use tv_base::{IoError, IoFault, LockError, TantivyError, TerminatingWrite, is_plain_name};
 use tv_directory::{DirWriter, Directory, Lock, Outside, index_writer_lock, meta_lock};
+use tv_test_support::{done, reads, told, whole};
 
 #[derive(Clone, Copy)]
 pub(crate) enum Call {

@@ -1,4 +1,6 @@
 //! Comparisons of borrowed values: each that can fail is dear to prove where values are owned.
+use std::alloc::Global;
+use std::fmt::Display;
 use std::process::Abort;
 use tv_base::{FileSlice, Memory};
 
@@ -12,6 +14,12 @@ pub(crate) fn are_bytes<R: Abort>(rt: &R, bytes: &[u8], want: &[u8]) {
 
 pub(crate) fn is_number<R: Abort>(rt: &R, number: u64, want: u64) {
     assert_eq!(rt; number, want);
+}
+
+/// `Display` prints this.
+pub(crate) fn prints<R: Abort, E: Display + Drop>(rt: &R, alloc: Global, shown: E, want: &str) {
+    let printed = format!(in alloc; "{shown}").expect(rt, "memory");
+    is_text(rt, printed.as_str(), want);
 }
 
 /// Looks whether there was memory for a text, and it is this one.

@@ -4,12 +4,12 @@ ghost use Rattle.std.specs.Prelude.{◌≡◌, [], false};
 
 use crate::compare::is_file;
 use crate::fixtures::all_owned;
-use crate::told::{done, told};
 use crate::written::{Content, file_of, written};
 use std::alloc::Global;
 use std::process::Abort;
 use tv_base::{ByteCount, Field, TerminatingWrite};
 use tv_framing::{CompositeFile, CompositeWrite};
+use tv_test_support::{done, told};
 
 // The spelling of 32431123, of 2 and of 1000000 as numbers of variable length.
 const LARGE: &[u8] = &[0x13, 0x38, 0x3b, 0x8f];

@@ -2,12 +2,12 @@
 
 use crate::empty::{Empty, TestBench};
 use crate::managed::{Call, Step, collect, taken, wrapped};
-use crate::told::{done, reads, told};
 use std::alloc::Global;
 use std::process::Abort;
 use tv_base::is_plain_name;
 use tv_directory::Directory;
 use tv_managed::ManagedDirectory;
+use tv_test_support::{done, reads, told};
 
 // A choice, and what the file `a` reads after a crash that takes it.
 type Row = (u32, &'static str);

@@ -3,11 +3,11 @@ use crate::calls::{take_all, tell};
 use crate::compare::is_number;
 use crate::empty::TestRam;
 use crate::ram::FILES;
-use crate::told::told;
 use std::alloc::Global;
 use std::process::Abort;
 use tv_base::VecSink;
 use tv_directory::{Desk, Directory, Outside, RamDirectory};
+use tv_test_support::told;
 
 // Takes steps, and tells lines to a sink with room for two of them that are short.
 fn write_and_tell<R: Abort + Eprint, O: Outside>(rt: &R, alloc: Global, outside: &mut O) {

@@ -1,6 +1,6 @@
 //! The texts of errors: a list a type, and what each of them prints.
+use crate::compare::prints;
 use crate::fixtures::owned;
-use crate::told::{prints, told};
 use std::alloc::Global;
 use std::fmt::Display;
 use std::process::Abort;
@@ -9,6 +9,7 @@ use tv_base::{
     Memory, OpenDirectoryError, OpenReadError, OpenWriteError, TantivyError, Version,
     version_string,
 };
+use tv_test_support::told;
 
 fn x<R: Abort>(rt: &R, alloc: Global) -> String {
     owned(rt, alloc, "x")

@@ -1,11 +1,6 @@
 //! Calls on plain files that the operating system refuses: none is answered as if it had been made.
 use crate::compare::is_number;
-use crate::failing::{
-    Failing, Piece, Pieces, Plans, Said, failing_by, full_from, has_said, no_plan, nothing_said,
-    refused_at,
-};
 use crate::fixtures::{make_folder, remove_folder};
-use crate::told::{done, told};
 use std::alloc::Global;
 use std::fs::{self, File};
 use std::io::ErrorKind;
@@ -14,6 +9,10 @@ use std::rt::Files;
 use tv_base::{Sink, Source, is_plain_name};
 use tv_directory::{Directory, NoWatch, meta_lock};
 use tv_files::{FileWatcher, MmapDirectory, ReadSource, StdoutSink};
+use tv_test_support::{
+    Failing, Piece, Pieces, Plans, Said, done, failing_by, full_from, has_said, no_plan,
+    nothing_said, refused_at, told,
+};
 
 const FOLDER: &str = "refusing";
 
@@ -195,21 +194,26 @@ fn sync_in_vain<R: Abort + Eprint, D: Directory>(
     assert!(rt; told(rt, alloc, directory.sync_directory(), SILENT));
 }
 
+// A runtime some of whose calls fail by these plans.
+fn runtime<R: Clone + Abort>(rt: &R, alloc: Global, plans: &Plans, said: &Said) -> Failing<R> {
+    failing_by(rt, alloc, plans, said).expect(rt, "memory")
+}
+
 // The directory of the folder, some of whose calls fail by these plans.
 fn folder<R: Files<File = File> + Clone + Drop + Abort>(
     rt: &R,
     alloc: Global,
     plans: &Plans,
 ) -> MmapDirectory<Failing<R>, NoWatch> {
-    let said = nothing_said(rt, alloc);
-    MmapDirectory::open(failing_by(rt, alloc, plans, &said), alloc, FOLDER).expect(rt, "a folder")
+    let said = nothing_said(alloc).expect(rt, "memory");
+    MmapDirectory::open(runtime(rt, alloc, plans, &said), alloc, FOLDER).expect(rt, "a folder")
 }
 
 #[test]
 fn a_refused_call_on_a_folder_is_answered_as_a_fault(rt: HostRuntime) {
     let a = rt.alloc();
     make_folder(&rt, a, FOLDER);
-    let plans = no_plan(&rt, a);
+    let plans = no_plan(a).expect(&rt, "memory");
     let mut directory = folder(&rt, a, &plans);
     for row in ROWS {
         refuse_each(&rt, a, &mut directory, &plans, *row);
@@ -272,16 +276,16 @@ fn put_all<R: Drop + Abort + Eprint>(
     let mut sink = StdoutSink::new(runtime, alloc);
     put_each(rt, alloc, &mut sink, plans);
     is_number(rt, sink.faults(), 1);
-    has_said(rt, said, "onethree");
+    assert!(rt; has_said(rt, said, "onethree"));
 }
 
 #[test]
 fn a_refused_look_or_put_is_answered_as_a_fault(rt: HostRuntime) {
     let a = rt.alloc();
-    let plans = no_plan(&rt, a);
-    let said = nothing_said(&rt, a);
-    look_at_each(&rt, a, failing_by(&rt, a, &plans, &said), &plans);
-    put_all(&rt, a, failing_by(&rt, a, &plans, &said), &plans, &said);
+    let plans = no_plan(a).expect(&rt, "memory");
+    let said = nothing_said(a).expect(&rt, "memory");
+    look_at_each(&rt, a, runtime(&rt, a, &plans, &said), &plans);
+    put_all(&rt, a, runtime(&rt, a, &plans, &said), &plans, &said);
 }
 
 // What a reader gives, and what is read of it: a read is made again after a signal.

@@ -6,7 +6,6 @@ use crate::compare::is_number;
 use crate::fixtures::{folder, handle, make_folder, remove_folder};
 use crate::index::schema;
 use crate::ram::FILES;
-use crate::told::{done, told};
 use crate::watches::{boxed, watch_both};
 use std::alloc::Global;
 use std::fs::{self, File};
@@ -18,6 +17,7 @@ use tv_base::{LockError, OpenDirectoryError, Sink, Source, TantivyError};
 use tv_directory::{Directory, NoWatch, WatchCall, WatchCallback, index_writer_lock};
 use tv_files::{FileWatcher, MmapDirectory, StdinSource, StdoutSink};
 use tv_index::Index;
+use tv_test_support::{done, told};
 
 fn write_file<R: Files<File = File> + Abort>(rt: &R, path: &str, bytes: &[u8]) {
     fs::write(rt, path, bytes).expect(rt, "written");

@@ -2,13 +2,13 @@
 ghost use Rattle.std.specs.Prelude.{◌≡◌, false};
 
 use crate::compare::{is_file, is_number};
-use crate::told::{done, told};
 use crate::written::{Content, file_of};
 use std::alloc::Global;
 use std::process::Abort;
 use tv_base::TerminatingWrite;
 use tv_checksum::Crc32;
 use tv_framing::{Footer, FooterProxy};
+use tv_test_support::{done, told};
 
 // A footer of 79 bytes of JSON, with the length of that and the number by which footers are known.
 const FOOTER_OF_123: &[u8] =

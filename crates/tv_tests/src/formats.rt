@@ -1,13 +1,7 @@
 //! Ids, and the names of a segment's files.
-use crate::compare::{are_bytes, is_made, is_text};
-use crate::told::{prints, told};
-use std::alloc::Global;
-use std::process::Abort;
+use crate::compare::{is_made, is_text, prints};
 use tv_formats::{DeleteMeta, SegmentComponent, SegmentId, segment_file_name};
-use tv_machine::{Answer, IdList, laws};
-
-// More ids than the longest line of a script can name.
-const MANY: u64 = 31_775;
+use tv_test_support::told;
 
 const BYTES: [u8; 16] = [
     0xa5, 0xc4, 0xdf, 0xcb, 0xdf, 0xe6, 0x45, 0x08, 0x91, 0x29, 0xe3, 0x08, 0xe2, 0x6d, 0x55, 0x23,
@@ -39,53 +33,4 @@ fn a_file_is_named_after_its_segment(rt: HostRuntime) {
     let made = segment_file_name(rt.alloc(), id(), Some(deletes), SegmentComponent::Delete);
     let name = made.expect(&rt, "memory");
     is_text(&rt, name.as_str(), "a5c4dfcbdfe645089129e308e26d5523.7.del");
-}
-
-// That many ids, the number of each in its last bytes, highest first.
-fn ids<R: Abort>(rt: &R, alloc: Global, count: u64) -> Vec<SegmentId> {
-    let mut ids = Vec::new(alloc);
-    for number in (0..count).rev() {
-        let id = u128::from(number).to_be_bytes();
-        ids.push(SegmentId::from_bytes(id)).expect(rt, "memory");
-    }
-    ids
-}
-
-// Whether that many ids and this one are told apart.
-fn are_told_apart<R: Abort>(rt: &R, alloc: Global, last: SegmentId) -> bool {
-    let mut list = ids(rt, alloc, MANY);
-    list.push(last).expect(rt, "memory");
-    IdList::new(list).is_some()
-}
-
-#[test]
-fn many_ids_are_told_apart(rt: HostRuntime) {
-    assert!(rt; are_told_apart(&rt, rt.alloc(), id()));
-    assert!(rt; !are_told_apart(&rt, rt.alloc(), SegmentId::from_bytes([0; 16])));
-}
-
-#[test]
-fn an_answer_has_its_bytes(rt: HostRuntime) {
-    let text = Vec::from_slice(rt.alloc(), b"gc deleted failed").expect(&rt, "memory");
-    let answer = Answer::from_bytes(text);
-    are_bytes(&rt, answer.as_slice(), b"gc deleted failed");
-}
-
-#[test]
-fn laws_are_called() {
-    laws::searchers_keep_their_commit();
-    tv_formats::laws::empty_directories_are_sound();
-    laws::sound_starts_open_to_sound_states();
-    laws::names_tell_their_segment();
-    tv_formats::laws::ids_are_ordered_by_their_bytes();
-    laws::collections_take_what_nothing_needs();
-    laws::lines_tell_outcomes();
-    laws::reports_determine_runs();
-    laws::validations_name_damaged_files();
-    tv_formats::laws::files_keep_their_body();
-    tv_formats::laws::meta_json_keeps_commits();
-    tv_formats::laws::json_spells_one_commit();
-    tv_formats::laws::stripped_schemas_are_texts();
-    tv_formats::laws::lists_tell_their_names();
-    tv_framing::laws::footers_are_read_back();
 }

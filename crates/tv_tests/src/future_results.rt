@@ -1,7 +1,6 @@
 //! Results that come later: by which way they come, and who looks at them.
 ghost use Rattle.std.specs.Prelude.{◌≡◌, false};
 
-use crate::told::told;
 use futures::executor::block_on;
 use futures::future::Future;
 use futures::task::{Context, Poll};
@@ -12,6 +11,7 @@ use std::sync::Wait;
 use std::thread;
 use std::thread::Threads;
 use tv_base::{FutureResult, Memory, Sender, TantivyError};
+use tv_test_support::told;
 
 // What becomes of a sender.
 #[derive(Clone, Copy)]

@@ -1,6 +1,5 @@
 //! Schemas and commits: texts in several spellings, texts that are refused, and what is printed.
 use crate::compare::{are_bytes, is_made, is_number, is_text};
-use crate::told::{done, reads, told};
 use std::alloc::Global;
 use std::process::Abort;
 use tv_base::{Opstamp, TantivyError};
@@ -9,6 +8,7 @@ use tv_index::{
     Compressor, IndexSettings, InnerSegmentMeta, Order, Schema, SegmentId, SegmentMeta,
     SegmentMetaInventory, UntrackedIndexMeta,
 };
+use tv_test_support::{done, reads, told};
 
 // The schema of one text field.
 pub(crate) const T: &str =

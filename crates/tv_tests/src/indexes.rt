@@ -5,7 +5,6 @@ use crate::closing::{Close, outcome};
 use crate::compare::{are_bytes, are_made, is_made, is_number};
 use crate::empty::{Empty, TestRam};
 use crate::index::{CORRUPT, FIRST, OTHER_SCHEMA, T, schema};
-use crate::told::{done, told};
 use std::alloc::Global;
 use std::process::Abort;
 use tv_base::{META_FILEPATH, Opstamp, TantivyError};
@@ -16,6 +15,7 @@ use tv_index::{
     SegmentMetaInventory, save_metas,
 };
 use tv_managed::Refused;
+use tv_test_support::{done, told};
 
 // What stands as `meta.json`, the schema that is passed, and what comes of the opening.
 type Opening = (Option<&'static str>, Option<&'static str>, &'static str);

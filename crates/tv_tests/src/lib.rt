@@ -13,19 +13,11 @@ mod checksum;
 #[cfg(test)]
 mod closing;
 #[cfg(test)]
-mod collection_crashes;
-#[cfg(test)]
 mod collections;
-#[cfg(test)]
-mod commit_crashes;
 #[cfg(test)]
 mod compare;
 #[cfg(test)]
 mod composites;
-#[cfg(test)]
-mod crash_images;
-#[cfg(test)]
-mod crash_runs;
 #[cfg(test)]
 mod crashes;
 #[cfg(test)]
@@ -37,13 +29,9 @@ mod entries;
 #[cfg(test)]
 mod error_texts;
 #[cfg(test)]
-mod failing;
-#[cfg(test)]
 mod fixtures;
 #[cfg(test)]
 mod folder_faults;
-#[cfg(test)]
-mod folder_places;
 #[cfg(test)]
 mod folder_steps;
 #[cfg(test)]
@@ -57,8 +45,6 @@ mod future_results;
 #[cfg(test)]
 mod index;
 #[cfg(test)]
-mod index_crashes;
-#[cfg(test)]
 mod indexes;
 #[cfg(test)]
 mod inventory;
@@ -69,27 +55,13 @@ mod managed;
 #[cfg(test)]
 mod moved_folders;
 #[cfg(test)]
-mod opening_crashes;
-#[cfg(test)]
-mod places;
-#[cfg(test)]
 mod ram;
 #[cfg(test)]
 mod registers;
 #[cfg(test)]
-mod replayed_folders;
-#[cfg(test)]
-mod replays;
-#[cfg(test)]
-mod runs;
-#[cfg(test)]
 mod sealed_files;
 #[cfg(test)]
 mod stamps;
-#[cfg(test)]
-mod stores;
-#[cfg(test)]
-mod told;
 #[cfg(test)]
 mod usages;
 #[cfg(test)]

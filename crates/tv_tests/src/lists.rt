@@ -3,11 +3,11 @@
 use crate::closing::Close;
 use crate::empty::{Empty, TestBench};
 use crate::sealed_files::{Bytes, slice_of};
-use crate::told::told;
 use std::alloc::Global;
 use std::process::Abort;
 use tv_base::{MANAGED_FILEPATH, TantivyError};
 use tv_managed::{ManagedDirectory, Refused};
+use tv_test_support::told;
 
 const DAMAGED: &str = r#"Err(DataCorruption(Data corruption (in file `".managed.json"`): ..))"#;
 

@@ -5,13 +5,13 @@ ghost use Rattle.tv_formats.specs.Names.{is_file_name};
 
 use crate::empty::{Empty, refusing};
 use crate::sealed_files::{Row, takes};
-use crate::told::{done, reads, told, whole};
 use std::alloc::Global;
 use std::collections::BTreeSet;
 use std::process::Abort;
 use tv_base::{IoError, LockError, MANAGED_FILEPATH, TantivyError, is_plain_name};
 use tv_directory::{Directory, meta_lock, what_reads_is_an_image};
 use tv_managed::{GarbageCollectionResult, ManagedDirectory, ManagedWriter};
+use tv_test_support::{done, reads, told, whole};
 
 /// A call on a file.
 #[derive(Clone, Copy)]

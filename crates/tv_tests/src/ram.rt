@@ -3,10 +3,10 @@
 use crate::calls::{Call, Step, take_all};
 use crate::compare::is_number;
 use crate::empty::{Empty, TestBench, TestRam};
-use crate::told::told;
 use std::alloc::Global;
 use std::process::Abort;
 use tv_directory::{Directory, RamDirectory};
+use tv_test_support::told;
 
 const ABSENT: &str = r#"Err(FileDoesNotExist("test"))"#;
 

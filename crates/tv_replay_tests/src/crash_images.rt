@@ -1,8 +1,7 @@
 //! What a crash leaves, looked at file by file: which commit stands, with each file that it needs, and that
 //! each file is on the list. Then an opening has to find that commit.
 use crate::compare::are_bytes;
-use crate::empty::TestBench;
-use crate::fixtures::{has_heard, replayed};
+use crate::fixtures::{TestBench, has_heard, replayed};
 use std::alloc::Global;
 use std::process::Abort;
 use tv_base::{MANAGED_FILEPATH, META_FILEPATH, OpenReadError, is_plain_name};

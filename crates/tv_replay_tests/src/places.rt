@@ -1,15 +1,15 @@
 //! Places in memory: what is under a path, what is lent, and what is said.
-ghost use Rattle.std.specs.Prelude.{◌≡◌, None};
+ghost use Rattle.std.specs.Prelude.{◌≡◌, None, true};
+ghost use Rattle.tv_formats.specs.Files.{has_no_feed};
 
-use crate::calls::tell;
 use crate::compare::are_bytes;
 use crate::fixtures::{Shows, empty_bench, has_heard, owned, place};
-use crate::told::{reads, told};
 use std::alloc::Global;
 use std::process::Abort;
-use tv_base::{IoError, Memory, OpenDirectoryError, Source};
+use tv_base::{IoError, IoFault, Memory, OpenDirectoryError, Source};
 use tv_directory::Outside;
 use tv_replay::{BenchPlace, Place};
+use tv_test_support::{reads, told};
 
 // A call of a place.
 #[derive(Clone, Copy, Debug)]
@@ -72,6 +72,14 @@ fn script<R: Abort, O: Outside + Drop>(
         }
         Err(error) => Err(error),
     }
+}
+
+// Tells a line, for which there is memory.
+fn tell<R: Abort, O: Outside>(rt: &R, outside: &mut O, line: &[u8]) -> Result<(), IoFault>
+    requires { has_no_feed line.now ≡ true }
+{
+    outside.ready(line.len()).expect(rt, "memory");
+    outside.tell(line)
 }
 
 // What is lent is told a line, and given back. All that was told to it.

@@ -1,7 +1,6 @@
 //! Runs of the program over the folders of the file system.
 ghost use Rattle.std.specs.Prelude.{◌≡◌, None};
 
-use crate::failing::{Failing, Piece, Pieces, Said, failing_by, has_said, no_plan, nothing_said};
 use crate::fixtures::{all_owned, make_folder, remove_folder};
 use std::alloc::Global;
 use std::fs::{self, File};
@@ -12,6 +11,7 @@ use std::rt::Files;
 use tv_base::Source;
 use tv_files::ReadSource;
 use tv_replay::{FolderPlace, run};
+use tv_test_support::{Failing, Piece, Pieces, Said, failing_by, has_said, no_plan, nothing_said};
 
 // A run: the paths of its folder and its schema, what its script gives, the status, and what is told
 // and said.
@@ -86,12 +86,13 @@ fn place<R: Files<File = File> + Clone + Drop + Abort>(
 ) -> FolderPlace<Failing<R>>
     ensures { result.lent ≡ None }
 {
-    let runtime = failing_by(rt, alloc, &no_plan(rt, alloc), said);
+    let plan = no_plan(alloc).expect(rt, "memory");
+    let runtime = failing_by(rt, alloc, &plan, said).expect(rt, "memory");
     FolderPlace::new(runtime, alloc).expect(rt, "memory")
 }
 
 // Replays a script over a folder, and looks at the status, and at what is told and said.
-fn replays<R: Files<File = File> + Clone + Drop + Abort, S: Source>(
+fn replays<R: Files<File = File> + Clone + Drop + Abort + Eprint, S: Source>(
     rt: &R,
     alloc: Global,
     paths: (&str, &str),
@@ -99,14 +100,14 @@ fn replays<R: Files<File = File> + Clone + Drop + Abort, S: Source>(
     want: (u8, &str),
 ) {
     let words = all_owned(rt, alloc, &["replay", paths.0, paths.1]);
-    let said = nothing_said(rt, alloc);
+    let said = nothing_said(alloc).expect(rt, "memory");
     let mut place = place(rt, alloc, &said);
     let status = run(alloc, words.as_slice(), &mut place, script);
-    has_said(rt, &said, want.1);
+    assert!(rt; has_said(rt, &said, want.1));
     assert_eq!(rt; status, want.0);
 }
 
-fn replay_each<R: Files<File = File> + Clone + Drop + Abort>(rt: &R, alloc: Global) {
+fn replay_each<R: Files<File = File> + Clone + Drop + Abort + Eprint>(rt: &R, alloc: Global) {
     for row in ROWS {
         let mut script = ReadSource::new(alloc, Pieces { left: row.script });
         let paths = (row.folder, row.schema);
@@ -165,7 +166,10 @@ impl<R: Files + Drop> io::Read for Moving<R> {
 // A commit in a folder that was moved.
 const MOVED: &[Piece] = &[Piece::Text("managed\n"), Piece::Text("commit -\n")];
 
-fn commit_where_it_was<R: Files<File = File> + Clone + Drop + Abort>(rt: &R, alloc: Global) {
+fn commit_where_it_was<R: Files<File = File> + Clone + Drop + Abort + Eprint>(
+    rt: &R,
+    alloc: Global,
+) {
     let reader = Moving {
         rt: rt.clone().expect(rt, "memory"),
         pieces: Pieces { left: MOVED },

@@ -1,8 +1,6 @@
 //! What calls answer, compared as text: what `Debug` prints of an answer, and what stands in a file that is read.
-use crate::compare::is_text;
 use std::alloc::Global;
-use std::fmt::{Debug, Display};
-use std::process::Abort;
+use std::fmt::Debug;
 use tv_base::{FileSlice, OpenReadError, OwnedBytes};
 
 // Whether a text is the wanted one, in which `..` stands for any words.
@@ -22,12 +20,7 @@ fn show<R: Eprint>(rt: &R, text: &str, want: &str, is_so: bool) -> bool {
 }
 
 /// Whether `Debug` prints this answer so. `..` stands for words that are free, or those of the operating system.
-pub(crate) fn told<R: Eprint, A: Debug + Drop>(
-    rt: &R,
-    alloc: Global,
-    answer: A,
-    want: &str,
-) -> bool {
+pub fn told<R: Eprint, A: Debug + Drop>(rt: &R, alloc: Global, answer: A, want: &str) -> bool {
     match format!(in alloc; "{answer:?}") {
         Ok(text) => show(rt, text.as_str(), want, is_wanted(text.as_str(), want)),
         Err(_error) => false,
@@ -35,7 +28,7 @@ pub(crate) fn told<R: Eprint, A: Debug + Drop>(
 }
 
 /// Bytes that a read gave.
-pub(crate) trait Bytes {
+pub trait Bytes {
     fn bytes(&self) -> &[u8];
 }
 
@@ -51,14 +44,14 @@ impl Bytes for OwnedBytes {
     }
 }
 
-// Whether bytes are those of the text.
-fn are_those<R: Eprint>(rt: &R, bytes: &[u8], want: &str) -> bool {
+/// Whether bytes are those of the text.
+pub(crate) fn are_those<R: Eprint>(rt: &R, bytes: &[u8], want: &str) -> bool {
     let text = str::from_utf8(bytes).unwrap_or("bytes that are no text");
     show(rt, text, want, bytes == want.as_bytes())
 }
 
 /// Whether a read gave the bytes of this text, or an error of which `Debug` prints this.
-pub(crate) fn reads<R: Eprint, B: Bytes + Drop, E: Debug + Drop>(
+pub fn reads<R: Eprint, B: Bytes + Drop, E: Debug + Drop>(
     rt: &R,
     alloc: Global,
     answer: Result<B, E>,
@@ -71,20 +64,14 @@ pub(crate) fn reads<R: Eprint, B: Bytes + Drop, E: Debug + Drop>(
 }
 
 /// What stands in a file, if it was opened.
-pub(crate) fn whole(file: Result<FileSlice, OpenReadError>) -> Result<OwnedBytes, OpenReadError> {
+pub fn whole(file: Result<FileSlice, OpenReadError>) -> Result<OwnedBytes, OpenReadError> {
     Ok(file?.read_bytes()?)
 }
 
 /// What came of a call, without the value that it gave.
-pub(crate) fn done<T: Drop, E>(answer: Result<T, E>) -> Result<(), E> {
+pub fn done<T: Drop, E>(answer: Result<T, E>) -> Result<(), E> {
     match answer {
         Ok(_value) => Ok(()),
         Err(error) => Err(error),
     }
-}
-
-/// `Display` prints this.
-pub(crate) fn prints<R: Abort, E: Display + Drop>(rt: &R, alloc: Global, shown: E, want: &str) {
-    let printed = format!(in alloc; "{shown}").expect(rt, "memory");
-    is_text(rt, printed.as_str(), want);
 }

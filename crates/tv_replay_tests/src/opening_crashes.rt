@@ -1,8 +1,7 @@
 //! Crashes while an index is opened that stands: the commit that stood is never taken away.
 use crate::crash_images::{SCHEMA, Span, look_from, may_stand};
 use crate::crash_runs::{COMMIT, ONE_COMMIT, SEGMENT, behind, refused};
-use crate::empty::TestBench;
-use crate::fixtures::replayed;
+use crate::fixtures::{TestBench, replayed};
 use std::alloc::Global;
 use std::process::Abort;
 

@@ -1,6 +1,7 @@
 //! A runtime some of whose calls fail, and a reader some of whose reads do.
 ghost use Rattle.std.specs.Prelude.{◌≤◌, length};
 
+use crate::answers::are_those;
 use std::alloc::{AllocError, Allocator, Global};
 use std::cell::{Cell, RefCell};
 use std::fmt::Display;
@@ -8,13 +9,12 @@ use std::fs::{File, Metadata, OpenOptions};
 use std::io;
 use std::io::ErrorKind;
 use std::path::PathBuf;
-use std::process::Abort;
 use std::rc::Rc;
 use std::rt::Files;
 
 /// What comes of a call that is to fail.
 #[derive(Clone, Copy, Debug)]
-pub(crate) enum Way {
+pub enum Way {
     /// It is refused.
     Refused,
     /// What it opens or looks at is `/dev/full`, which takes no byte and no sync.
@@ -23,14 +23,14 @@ pub(crate) enum Way {
 
 /// Which calls fail: after so many that are made, so many.
 #[derive(Clone, Copy, Debug)]
-pub(crate) struct Plan {
-    pub(crate) before: u64,
-    pub(crate) failing: u64,
-    pub(crate) way: Way,
+pub struct Plan {
+    pub before: u64,
+    pub failing: u64,
+    pub way: Way,
 }
 
 /// The call of this number is refused, counted from 0 on.
-pub(crate) fn refused_at(number: u64) -> Plan {
+pub fn refused_at(number: u64) -> Plan {
     Plan {
         before: number,
         failing: 1,
@@ -39,7 +39,7 @@ pub(crate) fn refused_at(number: u64) -> Plan {
 }
 
 /// So many calls from this number on open or look at `/dev/full`.
-pub(crate) fn full_from(number: u64, calls: u64) -> Plan {
+pub fn full_from(number: u64, calls: u64) -> Plan {
     Plan {
         before: number,
         failing: calls,
@@ -48,41 +48,39 @@ pub(crate) fn full_from(number: u64, calls: u64) -> Plan {
 }
 
 /// The plan of the calls to come, which changes with each call.
-pub(crate) type Plans = Rc<Cell<Plan>>;
+pub type Plans = Rc<Cell<Plan>>;
 
 /// A plan by which no call fails.
-pub(crate) fn no_plan<R: Abort>(rt: &R, alloc: Global) -> Plans {
+pub fn no_plan(alloc: Global) -> Result<Plans, AllocError> {
     let plan = Plan {
         before: 0,
         failing: 0,
         way: Way::Refused,
     };
-    Rc::new(alloc, Cell::new(plan)).expect(rt, "memory")
+    Ok(Rc::new(alloc, Cell::new(plan))?)
 }
 
 /// What was printed.
-pub(crate) type Said = Rc<RefCell<Vec<u8>>>;
+pub type Said = Rc<RefCell<Vec<u8>>>;
 
 /// Nothing that was printed yet.
-pub(crate) fn nothing_said<R: Abort>(rt: &R, alloc: Global) -> Said {
-    Rc::new(alloc, RefCell::new(Vec::new(alloc))).expect(rt, "memory")
+pub fn nothing_said(alloc: Global) -> Result<Said, AllocError> {
+    Ok(Rc::new(alloc, RefCell::new(Vec::new(alloc)))?)
 }
 
-/// Looks whether this was printed since the last look.
-pub(crate) fn has_said<R: Abort>(rt: &R, said: &Said, want: &str) {
+/// Whether this was printed since the last look.
+pub fn has_said<R: Eprint>(rt: &R, said: &Said, want: &str) -> bool {
     let Ok(mut said) = said.try_borrow_mut() else {
-        panic!(rt; "somebody prints")
+        return false;
     };
-    match str::from_utf8(said.as_slice()) {
-        Ok(text) => assert_eq!(rt; text, want),
-        Err(_) => panic!(rt; "what was printed is no text"),
-    }
+    let is_so = are_those(rt, said.as_slice(), want);
     said.clear();
+    is_so
 }
 
 /// A runtime whose calls fail by a plan, and what it prints is kept.
 #[derive(Drop)]
-pub(crate) struct Failing<R: Drop> {
+pub struct Failing<R: Drop> {
     rt: R,
     alloc: Global,
     plans: Plans,
@@ -90,18 +88,21 @@ pub(crate) struct Failing<R: Drop> {
 }
 
 /// A runtime of this plan, over another one.
-pub(crate) fn failing_by<R: Clone + Abort>(
+pub fn failing_by<R: Clone>(
     rt: &R,
     alloc: Global,
     plans: &Plans,
     said: &Said,
-) -> Failing<R> {
-    Failing {
-        rt: rt.clone().expect(rt, "memory"),
+) -> Result<Failing<R>, AllocError> {
+    let rt = rt.clone()?;
+    let plans = plans.clone()?;
+    let said = said.clone()?;
+    Ok(Failing {
+        rt,
         alloc,
-        plans: plans.clone().expect(rt, "few clones"),
-        said: said.clone().expect(rt, "few clones"),
-    }
+        plans,
+        said,
+    })
 }
 
 impl<R: Drop> Failing<R> {
@@ -143,15 +144,7 @@ impl<R: Drop> Failing<R> {
 
 impl<R: Clone + Drop> Clone for Failing<R> {
     fn clone(&self) -> Result<Failing<R>, AllocError> {
-        let rt = self.rt.clone()?;
-        let plans = self.plans.clone()?;
-        let said = self.said.clone()?;
-        Ok(Failing {
-            rt,
-            alloc: self.alloc,
-            plans,
-            said,
-        })
+        failing_by(&self.rt, self.alloc, &self.plans, &self.said)
     }
 }
 
@@ -243,15 +236,15 @@ impl<R: Files<File = File> + Drop> Files for Failing<R> {
 
 /// What a read gives: bytes, or an error of this kind.
 #[derive(Clone, Copy)]
-pub(crate) enum Piece {
+pub enum Piece {
     Text(&'static str),
     Fails(ErrorKind),
 }
 
 /// A reader whose reads give these pieces, one after the other, and nothing after the last.
 #[derive(Drop)]
-pub(crate) struct Pieces {
-    pub(crate) left: &'static [Piece],
+pub struct Pieces {
+    pub left: &'static [Piece],
 }
 
 impl io::Read for Pieces {

@@ -1,8 +1,6 @@
 //! Events that are applied to an open index, one by one.
 use crate::compare::are_bytes;
 use crate::fixtures::{empty_bench, folder_desk, has_heard, make_folder, remove_folder};
-use crate::index::{CORRUPT, OTHER_SCHEMA};
-use crate::told::{done, told};
 use std::alloc::Global;
 use std::fs::{self, File};
 use std::process::Abort;
@@ -10,6 +8,7 @@ use std::rt::Files;
 use tv_base::TantivyError;
 use tv_directory::Outside;
 use tv_replay::{Answer, Event, IndexStore, ReloadPolicy, parse_event};
+use tv_test_support::{done, told};
 
 // Lines, and what their events answer.
 const LINES: &[(&str, &str)] = &[
@@ -155,6 +154,11 @@ fn reads<R: Files<File = File> + Abort, O: Outside + Drop>(
     drop(store.into_outside());
     answer
 }
+
+// What is answered where the bytes of `meta.json` mean no commit, and where they mean one of another schema.
+const CORRUPT: &str = r#"Err(DataCorruption(Data corruption (in file `"meta.json"`): ..))"#;
+
+const OTHER_SCHEMA: &str = r#"Err(SchemaError("An index exists but the schema does not match."))"#;
 
 // What is written, and for what a reader is refused: bytes that mean no commit, and a commit of another schema.
 const REFUSED: &[(&str, &str)] = &[("{", CORRUPT), (OTHER, OTHER_SCHEMA)];

@@ -1,7 +1,6 @@
 //! Scripts that are stopped by crashes, the commits that they make, and the directories behind them.
 use crate::crash_images::{Meta, SCHEMA, Stored, Table};
-use crate::empty::TestBench;
-use crate::fixtures::{empty_bench, replayed, source};
+use crate::fixtures::{TestBench, empty_bench, replayed, source};
 use std::alloc::Global;
 use std::process::Abort;
 use tv_replay::{Replayed, replay};

@@ -1,6 +1,5 @@
 //! What crashes leave of an index: each image is a sound start again, with a commit that may stand then.
-use crate::empty::TestBench;
-use crate::fixtures::{Shows, empty_bench, replayed};
+use crate::fixtures::{Shows, TestBench, empty_bench, replayed};
 use std::alloc::Global;
 use std::process::Abort;
 use tv_directory::Directory;

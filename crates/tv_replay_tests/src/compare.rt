@@ -1,0 +1,10 @@
+//! Comparisons of borrowed values: each that can fail is dear to prove where values are owned.
+use std::process::Abort;
+
+pub(crate) fn are_bytes<R: Abort>(rt: &R, bytes: &[u8], want: &[u8]) {
+    assert_eq!(rt; bytes, want);
+}
+
+pub(crate) fn is_number<R: Abort>(rt: &R, number: u64, want: u64) {
+    assert_eq!(rt; number, want);
+}
