@@ -9,6 +9,7 @@ pub mod Entries
 pub mod Keyed
 pub mod EntryLaws
 pub mod Visits
+pub mod Maps
 pub mod Futures
 pub mod FutureStates
 pub mod Bytes

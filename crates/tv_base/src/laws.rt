@@ -1,13 +1,15 @@
 //! Laws on which a user of this crate may rely. Each function makes the calls of which it speaks; its
 //! contract is the law.
-ghost use Rattle.std.specs.Prelude.{◌≡◌, ◌≤◌, ◌<◌, ◌+◌, false, None, IfOk, IfSome, OnErr, OnOk};
-ghost use Rattle.std.specs.Prelude.{codes, length, string_bytes, take};
+ghost use Rattle.std.specs.Prelude.{◌≡◌, ◌≤◌, ◌<◌, ◌+◌, ◌⊎◌, false, None, Some, Ok, Result, IfErr, IfOk, IfSome, OnErr, OnOk};
+ghost use Rattle.std.specs.Prelude.{codes, length, map, string_bytes, take};
 ghost use Rattle.std.specs.Ordering.{nat_cmp, ordering_then};
 ghost use Rattle.futures.specs.Poll.{OnPending};
 ghost use Rattle.futures.specs.Task.{IsArmed};
+ghost use Rattle.tv_base.specs.Maps.{IsOf, first_error};
 
 use crate::address::DocAddress;
 use crate::error::TantivyError;
+use crate::executor::Executor;
 use crate::exhausted::Exhausted;
 use crate::future_result::FutureResult;
 use crate::inventory::{Inventory, Ticket};
@@ -18,6 +20,7 @@ use crate::vint::VInt;
 use futures::task::{Context, Poll};
 use std::alloc::{AllocError, Global};
 use std::cmp::Ordering;
+use std::thread::Threads;
 use tv_formats::{Memory, Opstamp};
 
 /// An inventory gives a number once: that of a value which is taken in is no smaller than the next
@@ -140,4 +143,35 @@ pub fn draws_no_part_at_a_refusal(stamper: &mut Stamper, n: u64) -> Result<(), E
 {
     stamper.stamps(n)?;
     Ok(())
+}
+
+/// A map leaves out no answer and keeps their order, and by any number of threads they are the same:
+/// where the answers of `f` are those of a function, its values at the arguments are answered.
+pub fn maps_alike_by_any_executor<
+    R: Threads + Sync,
+    A: Send + Drop,
+    T: Send + Drop,
+    F: Fn(A) -> Result<T, TantivyError> + Sync,
+>(executor: &Executor, rt: &R, alloc: Global, f: F, args: Vec<A>) -> Result<Vec<T>, TantivyError>
+    requires callable { F.IsAlwaysCallable f }
+    ensures { (g : A → Result T TantivyError) → IsOf (F.post f) g
+        → IfOk result (λ values. map g args.items ≡ map Ok values.items) }
+{
+    executor.map(rt, alloc, f, args.into_iter())
+}
+
+/// No later error is answered: where the answers of `f` are those of a function, the error is the one
+/// of least position, by any number of threads.
+pub fn answers_the_first_error<
+    R: Threads + Sync,
+    A: Send + Drop,
+    T: Send + Drop,
+    F: Fn(A) -> Result<T, TantivyError> + Sync,
+>(executor: &Executor, rt: &R, alloc: Global, f: F, args: Vec<A>) -> Result<Vec<T>, TantivyError>
+    requires callable { F.IsAlwaysCallable f }
+    ensures { (g : A → Result T TantivyError) → IsOf (F.post f) g
+        → IfErr result (λ error. (error ≡ TantivyError.Memory)
+        ⊎ (first_error (map g args.items) ≡ Some error)) }
+{
+    executor.map(rt, alloc, f, args.into_iter())
 }

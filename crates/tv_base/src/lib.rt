@@ -4,6 +4,7 @@
 mod address;
 mod byte_count;
 mod error;
+mod executor;
 mod exhausted;
 mod future_result;
 mod inventory;
@@ -23,6 +24,7 @@ mod writers;
 pub use address::{DocAddress, DocId, Field, SegmentOrdinal};
 pub use byte_count::ByteCount;
 pub use error::{DataCorruption, TantivyError};
+pub use executor::Executor;
 pub use exhausted::Exhausted;
 pub use future_result::{FutureResult, Sender};
 pub use inventory::{Entry, Inventory, Ticket, Visit};

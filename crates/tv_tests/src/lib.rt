@@ -29,6 +29,8 @@ mod entries;
 #[cfg(test)]
 mod error_texts;
 #[cfg(test)]
+mod executor;
+#[cfg(test)]
 mod fixtures;
 #[cfg(test)]
 mod folder_faults;
