@@ -1,5 +1,5 @@
--- What actions on the files do, in the machine's words. No public contract names these: the contract of
--- each plan ties them to the event's step.
+-- What actions on the files do, in the machine's words. Nobody has to believe these: what `plan` promises
+-- ties them to the event's step.
 use Rattle.std.specs.Prelude.{ℕ, ◌≡◌, ◌≢◌, ◌⊎◌, ◌+◌, ◌++◌, ◌≤◌, Bool, not, true, List, [], ◌∷◌, find, length, codes, map, string_bytes, Option, Some, None, is_some, if◌then◌else◌}
 use Rattle.std.specs.List.{AllByRecursion}
 use Rattle.tv_formats.specs.Collections.{Collection, Collections, collectable, collection_at, done_of, failed_of, held, no_collections, with_begun}

@@ -7,7 +7,7 @@ use std::alloc::Global;
 use tv_formats::Memory;
 use tv_machine::Answer;
 
-// The answer to an event that changes nothing.
+/// The answer to an event that changes nothing.
 pub fn refused(alloc: Global, word: &str) -> Result<Answer, Memory>
     requires { has_no_feed word.now ≡ true }
     ensures { IfOk result (λ answer. answer ≡ line (codes "refused") (word.now ∷ [])) }

@@ -35,8 +35,9 @@ fn push_names(text: &mut Vec<u8>, names: &[FileName])
     }
 }
 
-// Adds the texts of names likewise. Takes no memory.
-pub fn push_texts(text: &mut Vec<u8>, names: &[&str])
+/// Adds the texts of names to a line, each after a space, in room that is there for them. Takes no
+/// memory.
+pub(crate) fn push_texts(text: &mut Vec<u8>, names: &[&str])
     requires room { length (line text.old.items (texts_of names.now)) ≤ vec_capacity text.old }
     requires feed { has_no_feed text.old.items ≡ true }
     requires plain { list_all is_plain (texts_of names.now) ≡ true }

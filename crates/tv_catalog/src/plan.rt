@@ -38,8 +38,8 @@ pub struct Planned<'a> {
     pub line: Vec<u8>,
 }
 
-// A line in a vector that has room for this many bytes.
-pub fn with_room(answer: Answer, len: usize) -> Result<Vec<u8>, Memory>
+/// A line in a vector that has room for this many bytes.
+pub(crate) fn with_room(answer: Answer, len: usize) -> Result<Vec<u8>, Memory>
     ensures line { IfOk result (λ line. line.items ≡ answer) }
     ensures feed { IfOk result (λ line. has_no_feed line.items ≡ true) }
     ensures room { IfOk result (λ line. len ≤ vec_capacity line) }

@@ -34,7 +34,7 @@ fn shown_line(
         .number(opstamp)
 }
 
-// A new reader, which shows the current commit.
+/// A new reader, which shows the current commit.
 pub fn plan_reader<'a, K: KnownFiles>(
     alloc: Global,
     catalog: &Catalog,
@@ -57,7 +57,7 @@ pub fn plan_reader<'a, K: KnownFiles>(
     })
 }
 
-// A reader shows the current commit.
+/// A reader shows the current commit from now on.
 pub fn plan_reload<'a, K: KnownFiles>(
     alloc: Global,
     catalog: &Catalog,

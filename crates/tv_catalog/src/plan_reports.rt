@@ -46,7 +46,7 @@ fn damaged_word(alloc: Global, names: &[FileName]) -> Result<Vec<u8>, Memory>
     Ok(text)
 }
 
-// The checksums of the current commit's files are compared with those of their bodies.
+/// The checksums of the current commit's files are compared with those of their bodies.
 pub fn plan_validate<'a, K: KnownFiles>(
     alloc: Global,
     catalog: &Catalog,

@@ -1,6 +1,6 @@
 //! Places among deletes.
 
-/// Which of the deletes that a writer got are applied to a segment: so many of the first ones,
-/// which is its field.
+/// Which of the deletes that a writer got are applied to a segment: as many of the first ones as
+/// its field says.
 #[derive(Clone, Copy, Debug, PartialEq, Eq)]
 pub struct DeleteCursor(pub u64);

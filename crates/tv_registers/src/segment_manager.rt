@@ -37,7 +37,8 @@ impl Model for SegmentManager {
 
 impl SegmentManager {
     /// The segments of the last commit, to which the deletes up to a cursor are applied, and none
-    /// that aren't committed. Of two segments with one id the later one stays.
+    /// that aren't committed. Of two segments with one id the later one stays, and shares stay
+    /// counted as in `SegmentRegister::new`.
     pub fn from_segments(
         alloc: Global,
         metas: Vec<SegmentMeta>,

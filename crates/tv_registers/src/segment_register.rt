@@ -39,7 +39,8 @@ impl Model for SegmentRegister {
 
 impl SegmentRegister {
     /// The register of these segments, to which the deletes up to a cursor are applied. Of two
-    /// segments with one id the later one stays, and the share of the other one stays counted.
+    /// segments with one id the later one stays. No inventory is lent: the share of the other one
+    /// stays counted, and where memory is wanted those of all do.
     pub fn new(
         alloc: Global,
         metas: Vec<SegmentMeta>,
