@@ -121,6 +121,8 @@ def definitions_of(crate, path, text):
         indent = len(line) - len(line.lstrip())
         if line.startswith("module _ "):
             margin = 2
+        elif starts.match(line) and indent == 0:
+            margin = 0
         if line.strip().startswith("--"):
             comment.append(line.strip()[2:].strip())
             continue

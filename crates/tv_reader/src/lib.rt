@@ -1,0 +1,26 @@
+//! Readers of an index: its segments, what a searcher shows of a commit, and the stored documents.
+#![tactic(auto)]
+
+mod commit_opening;
+mod faults;
+mod field_usage;
+mod generation;
+pub mod laws;
+mod search;
+mod searcher;
+mod searcher_documents;
+mod searcher_spaces;
+mod segment_opening;
+mod segment_reader;
+mod store_reader;
+mod warmer;
+mod warmers;
+mod warming_state;
+
+pub use generation::SearcherGeneration;
+pub use search::{Collector, Query, Weight};
+pub use searcher::Searcher;
+pub use segment_reader::SegmentReader;
+pub use store_reader::StoreReader;
+pub use warmer::{Warmer, gc_interval};
+pub use warming_state::WarmingState;
