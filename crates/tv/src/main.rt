@@ -1,5 +1,5 @@
 //! The program `tv`: replays a script of events over the directory of an index, or one that it
-//! generates.
+//! generates, and says how much space the files of an index take.
 #![tactic(auto)]
 
 use std::io::ErrorKind;

@@ -3,7 +3,7 @@ use Rattle.std.proofs.Common.{◌≡◌, ◌≤◌, ◌+◌, ℕ, Bool, true, fa
 use Rattle.std.specs.Cmp.Lexicographic.{texts_ties}
 use Rattle.tv_formats.specs.Collections.{collectable, done_of, failed_of, without}
 use Rattle.tv_machine.specs.CollectionEvents.{collected_line}
-use Rattle.tv_machine.specs.Lines.{line}
+use Rattle.tv_events.specs.AnswerLines.{line}
 use Rattle.tv_formats.specs.Names.{has, is}
 use Rattle.tv_formats.specs.Files.{has_no_feed}
 use Rattle.tv_formats.proofs.NoFeeds.{no_feed_append}

@@ -1,6 +1,5 @@
 pub mod SharedLaws
 pub mod LivingNames
-pub mod FileNames
 pub mod Named
 pub mod Planned
 pub mod PlannedCollections
@@ -11,9 +10,8 @@ pub mod Registered
 pub mod Shareable
 pub mod CommitEvents
 pub mod Spending
-pub mod ReaderEvents
+pub mod Reloading
 pub mod PlannedReaders
 pub mod ReportEvents
-pub mod OpenedCatalogs
 pub mod AnswerRoom
 pub mod ValidatedFiles

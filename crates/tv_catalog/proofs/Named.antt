@@ -3,7 +3,7 @@ use Rattle.std.proofs.Common.{◌≡◌, ℕ, true, List, [], ◌∷◌, ◌++�
 use Rattle.std.specs.List.{list_all}
 use Rattle.std.proofs.lemmas.List.{map_push}
 use Rattle.tv_formats.specs.Names.{is_plain}
-use Rattle.tv_machine.specs.Lines.{line}
+use Rattle.tv_events.specs.AnswerLines.{line}
 use Rattle.tv_formats.specs.Files.{has_no_feed}
 use Rattle.tv_formats.proofs.PlainNames.{plain_head}
 use Rattle.tv_formats.proofs.NoFeeds.{no_feed_plain}

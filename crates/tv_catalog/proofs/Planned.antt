@@ -5,10 +5,11 @@ use Rattle.std.specs.Fmt.{decimal}
 use Rattle.tv_formats.specs.declared.segment.LiveSegment.{LiveSegment}
 use Rattle.tv_formats.specs.declared.segment.SegmentComponent.{SegmentComponent}
 use Rattle.tv_formats.specs.Names.{at}
-use Rattle.tv_machine.specs.declared.event.Event.TheVariants as events
+use Rattle.tv_events.specs.declared.event.Event.TheVariants as events
 use Rattle.tv_formats.specs.Segments.{name_of}
 use Rattle.tv_machine.specs.State.{State, live_at, file_at}
-use Rattle.tv_machine.specs.Lines.{line, unless, given}
+use Rattle.tv_events.specs.AnswerLines.{line}
+use Rattle.tv_machine.specs.Lines.{unless, given}
 use Rattle.tv_machine.specs.FileEvents.{lacks_deletes, open_name, open_step, opened, write_name, write_step, written_to, wrote}
 use Rattle.tv_catalog.specs.Kept.{KeptState}
 use Rattle.tv_catalog.specs.Effects.{WritesByStep, length_after}

@@ -8,8 +8,8 @@ use Rattle.tv_formats.proofs.PlainNames.{both}
 use Rattle.tv_formats.specs.Files.{has_no_feed}
 use Rattle.tv_formats.specs.Names.{has, is_plain}
 use Rattle.tv_machine.specs.CollectionEvents.{collected_line, garbage, gc_begin_step, gc_step, without_files}
-use Rattle.tv_machine.specs.Lines.{line}
-use Rattle.tv_machine.specs.Living.{living}
+use Rattle.tv_events.specs.AnswerLines.{line}
+use Rattle.tv_machine.specs.Living.{is_busy, living}
 use Rattle.tv_machine.specs.State.{State}
 use Rattle.tv_catalog.proofs.AnswerRoom.{collected_fits}
 use Rattle.tv_catalog.proofs.SharedLaws.{same_collectable, same_needs}
@@ -18,11 +18,11 @@ use Rattle.tv_catalog.specs.declared.action.Reply.{Reply}
 use Rattle.tv_catalog.specs.declared.action.Reply.TheVariants as replies
 
 -- what is collected beside the living names is what nothing needs
-pub planned_gc : (s : State) (names : List (List ℕ)) (deletes : List Bool) → ((n : List ℕ) → has names n ≡ has (living s.catalog) n)
+pub planned_gc : (s : State) (names : List (List ℕ)) (deletes : List Bool) → is_busy s.catalog ≡ false → ((n : List ℕ) → has names n ≡ has (living s.catalog) n)
     → gc_step s deletes ≡ (collected_line (done_of (taken_beside names s) deletes) (failed_of (taken_beside names s) deletes), without_files s (done_of (taken_beside names s) deletes))
-planned_gc s names deletes needs =
+planned_gc s names deletes free needs =
     let same : taken_beside names s ≡ garbage s = same_collectable (names ++ held s.collections) (living s.catalog ++ held s.collections) s.managed (same_needs names s.collections s.collections s.catalog refl needs) in
-    rw same refl
+    rw (free, same) refl
 
 -- its line has room where that of all managed names has
 pub gc_fits : (needed managed : List (List ℕ)) (told : List ℕ) (deletes : List Bool) (reply : Reply)
@@ -46,8 +46,8 @@ first_plain_name names rest name e h =
     (no_feed_plain name parts.0, parts.1)
 
 -- a collection that begins takes what nothing needs
-pub planned_begin : (s : State) (names : List (List ℕ)) (told : List ℕ) → ((n : List ℕ) → has names n ≡ has (living s.catalog) n) → told ≡ line (codes "gc") (decimal s.collections.next ∷ taken_beside names s)
+pub planned_begin : (s : State) (names : List (List ℕ)) (told : List ℕ) → is_busy s.catalog ≡ false → ((n : List ℕ) → has names n ≡ has (living s.catalog) n) → told ≡ line (codes "gc") (decimal s.collections.next ∷ taken_beside names s)
     → gc_begin_step s ≡ (told, record s { collections = with_begun s.collections (taken_beside names s) })
-planned_begin s names told needs is =
+planned_begin s names told free needs is =
     let same : taken_beside names s ≡ garbage s = same_collectable (names ++ held s.collections) (living s.catalog ++ held s.collections) s.managed (same_needs names s.collections s.collections s.catalog refl needs) in
-    rw (is, same) refl
+    rw (free, is, same) refl

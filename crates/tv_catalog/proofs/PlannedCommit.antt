@@ -1,5 +1,5 @@
 -- The plan of a commit.
-use Rattle.std.proofs.Common.{ℕ, ◌≡◌, ◌≤◌, ◌<◌, ◌+◌, ◌^◌, ◌⊎◌, inl, inr, Bool, true, false, ◌||◌, List, [], ◌∷◌, ◌++◌, map, length, length-append, codes, decimal, Option, Some, None, refl, sym, ap, subst, ◌∙◌, arith}
+use Rattle.std.proofs.Common.{ℕ, ◌≡◌, ◌≤◌, ◌<◌, ◌^◌, ◌⊎◌, inl, inr, Bool, true, false, ◌||◌, List, [], ◌∷◌, ◌++◌, map, length, length-append, codes, decimal, Option, Some, None, refl, sym, ap, subst, ◌∙◌, arith}
 use Rattle.std.specs.Prelude.{Vec, is_some, ◌==◌}
 use Rattle.std.specs.declared.alloc.Global.{Global}
 use Rattle.std.proofs.lemmas.Bool.{ne_eqb}
@@ -19,13 +19,13 @@ use Rattle.tv_formats.proofs.Entries.{is_text}
 use Rattle.tv_machine.specs.CommitEvents.{chosen, commit_step, committed, first_unknown, last_stamp}
 use Rattle.tv_machine.specs.Lines.{unless, words_of}
 use Rattle.tv_machine.specs.State.{State, on_catalog}
-use Rattle.tv_catalog.specs.Actions.{after, changed, first_open, line_of, step_by, unless_open}
+use Rattle.tv_catalog.specs.Actions.{after, changed, first_open, line_of, step_by, unless_open, with_commit}
 use Rattle.tv_catalog.specs.Committing.{commit_line, commit_sealed}
 use Rattle.tv_catalog.specs.declared.action.Action.TheVariants as actions
 use Rattle.tv_catalog.specs.declared.action.Change.TheVariants as changes
 use Rattle.tv_catalog.specs.declared.action.Reply.{Reply}
 use Rattle.tv_catalog.specs.declared.action.Reply.TheVariants as replies
-use Rattle.tv_catalog.proofs.SharedLaws.{all_joined}
+use Rattle.tv_snapshots.proofs.ListLaws.{all_joined}
 
 -- ---- steps
 
@@ -41,7 +41,7 @@ sealed_or : (s : State) (payload : Option (List ℕ)) (segments : List (List ℕ
 sealed_or s payload segments commit text required answer (Some name) is told = refl
 sealed_or s payload segments commit text required answer None is told =
     ap (λ (l : List ℕ). (l, (on_catalog s (committed s.catalog payload segments)).1)) (sym told)
-    ∙ ap (λ (c : Commit). (answer, record s { catalog = record s.catalog { next = s.catalog.next + 1; commit = c } })) (sym is)
+    ∙ ap (λ (c : Commit). (answer, record s { catalog = with_commit s.catalog c })) (sym is)
 
 pub planned_commit : (s : State) (payload : Option (List ℕ)) (ids : List (List ℕ)) (segments : List (List ℕ × LiveSegment)) (commit : Commit) (text : Vec ℕ Global) (required : Vec (List ℕ) Global) (answer : List ℕ)
     → s.catalog.next < last_stamp → first_unknown s.catalog ids ≡ None → segments ≡ chosen s.catalog ids → commit ≡ (committed s.catalog payload segments).1.commit → required.items ≡ all_required segments

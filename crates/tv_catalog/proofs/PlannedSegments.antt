@@ -13,7 +13,8 @@ use Rattle.tv_formats.specs.Segments.{segment_names}
 use Rattle.tv_machine.specs.CollectionEvents.{release_segment_step, with_left, without_live}
 use Rattle.tv_machine.specs.CommitEvents.{last_stamp}
 use Rattle.tv_machine.specs.DeleteEvents.{delete_name, deletes_step, having_deleted_docs, is_committed_delete, is_name_in_use, next_deletes, with_deletes}
-use Rattle.tv_machine.specs.Lines.{line, unless}
+use Rattle.tv_events.specs.AnswerLines.{line}
+use Rattle.tv_machine.specs.Lines.{unless}
 use Rattle.tv_machine.specs.State.{Catalog, State, live_at}
 use Rattle.tv_catalog.specs.Actions.{OnlyKeeps, after, catalog_after, changed, loaded_by}
 use Rattle.tv_catalog.specs.declared.action.Action.{Action}
@@ -75,6 +76,9 @@ only_keeps s actions.Reopen replies.Done keeps = refl
 only_keeps s actions.Reopen other keeps = refl
 only_keeps s (actions.Validate names) reply keeps = refl
 only_keeps s (actions.Load generation) reply keeps = refl
+only_keeps s actions.Lock reply keeps = refl
+only_keeps s (actions.Read commit) reply keeps = refl
+only_keeps s actions.Unlock reply keeps = refl
 only_keeps s other reply keeps = absurd keeps
 
 -- so that the segments after it are those of the change

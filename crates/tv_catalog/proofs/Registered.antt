@@ -12,9 +12,9 @@ use Rattle.tv_formats.proofs.Entries.{sorted_put}
 use Rattle.tv_metas.specs.TrackedMetas.{put_all}
 use Rattle.tv_registers.specs.Registers.{Counted, EntryState, Register, id_of, is_living, living_in, metas_in, put, put_each, with_each, with_entry}
 use Rattle.tv_catalog.specs.Choosing.{is_within, with_documents, with_segment}
-use Rattle.tv_catalog.specs.Committing.{IsSorted}
+use Rattle.tv_snapshots.specs.SegmentOrder.{IsSorted}
 use Rattle.tv_catalog.proofs.ChosenSegments.{Entry, before_filtered, put_passing}
-use Rattle.tv_catalog.proofs.OpenedCatalogs.{next_entry}
+use Rattle.tv_snapshots.proofs.SegmentOrder.{next_entry}
 use Rattle.tv_catalog.proofs.SharedLaws.{all_put}
 
 -- what a commit has of the segments of a register

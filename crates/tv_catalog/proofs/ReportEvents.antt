@@ -8,7 +8,8 @@ use Rattle.tv_formats.specs.Segments.{segment_names, components}
 use Rattle.tv_formats.specs.Names.{has, is}
 use Rattle.tv_formats.proofs.Entries.{is_text}
 use Rattle.tv_formats.proofs.Required.{by_one}
-use Rattle.tv_catalog.proofs.SharedLaws.{all_joined, files_named}
+use Rattle.tv_snapshots.proofs.ListLaws.{all_joined}
+use Rattle.tv_catalog.proofs.SharedLaws.{files_named}
 
 -- ---- the files that are looked at
 

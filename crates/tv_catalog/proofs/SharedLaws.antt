@@ -1,5 +1,5 @@
 -- Laws of lists of entries, of lines and of names, that what stands above needs too.
-use Rattle.std.proofs.Common.{◌≡◌, ℕ, Bool, ◌||◌, List, [], ◌∷◌, ◌++◌, refl, sym, ap, ◌∙◌, true, false, cond, Some, subst, ◌+◌, ◌<◌, length, get_or, drop, codes, Option, None, option_map, map, ◌⊎◌, inl, inr, take, arith, length-append}
+use Rattle.std.proofs.Common.{◌≡◌, ℕ, Bool, ◌||◌, List, [], ◌∷◌, ◌++◌, refl, sym, ap, ◌∙◌, true, false, cond, Some, subst, ◌+◌, ◌<◌, length, get_or, drop, codes, Option, None, option_map, map, ◌⊎◌, inl, inr, arith, length-append}
 use Rattle.tv_formats.specs.Names.{has, byte_cmp, at, is}
 use Rattle.tv_formats.specs.Collections.{Collections, collectable, held}
 use Rattle.tv_machine.specs.Living.{living}
@@ -11,17 +11,19 @@ use Rattle.std.specs.List.{AllByRecursion}
 use Rattle.std.specs.Map.{remove_entry}
 use Rattle.std.specs.BTreeMap.{is_at, insert_entry}
 use Rattle.tv_formats.proofs.Entries.{text_at}
-use Rattle.std.proofs.lemmas.List.{drop_more, take-append-drop}
+use Rattle.std.proofs.lemmas.List.{drop_more}
 use Rattle.tv_formats.specs.declared.segment.LiveSegment.{LiveSegment}
 use Rattle.tv_formats.specs.Commits.{IsSegment}
 use Rattle.tv_formats.specs.declared.segment.SegmentComponent.{SegmentComponent}
 use Rattle.tv_formats.specs.Segments.{name_of, required_components, required_names, all_required}
-use Rattle.tv_machine.specs.Lines.{given, line}
+use Rattle.tv_machine.specs.Lines.{given}
+use Rattle.tv_events.specs.AnswerLines.{line}
 use Rattle.tv_formats.specs.declared.segment.DeleteMeta.{DeleteMeta}
 use Rattle.tv_formats.specs.Ids.{IsId}
 use Rattle.tv_machine.specs.Index.{IsFileOf}
 use Rattle.tv_machine.proofs.Required.{name_is_file}
 use Rattle.tv_catalog.specs.Exhausted.{PassesEnd}
+use Rattle.tv_snapshots.proofs.ListLaws.{all_joined}
 
 -- names that are among others alike are spared alike
 pub same_collectable : (needed others managed : List (List ℕ)) → ((n : List ℕ) → has needed n ≡ has others n) → collectable needed managed ≡ collectable others managed
@@ -91,10 +93,6 @@ pub has_body : (o : Option (List ℕ)) (len : ℕ) → Some len ≡ option_map l
 has_body None len e = absurd cc
 has_body (Some body) len e = (body, refl, cc)
 
-pub all_joined : {A : Type 0} (P : A → Type 0) (xs ys : List A) → AllByRecursion P xs → AllByRecursion P ys → AllByRecursion P (xs ++ ys)
-all_joined P [] ys h k = k
-all_joined P (x ∷ xs) ys h k = (h.0, all_joined P xs ys h.1 k)
-
 -- the names of some components of a segment are those of files
 pub files_named : (id : List ℕ) (deletes : Option DeleteMeta) (some : List SegmentComponent) → IsId id → AllByRecursion IsFileOf (map (name_of id deletes) some)
 files_named id deletes [] h = tt
@@ -112,11 +110,6 @@ all_required_are_files (e ∷ segments) h =
 pub only_numbers : {P : Type 0} → P ⊎ PassesEnd None → P
 only_numbers (inl p) = p
 only_numbers (inr (n, is, much)) = absurd cc
-
--- what stands at a place of a list, between what is before it and after it
-pub split_there : {A : Type 0} (xs : List A) (i : ℕ) (x : A) → i < length xs → x ≡ get_or xs i x → xs ≡ take i xs ++ x ∷ drop (i + 1) xs
-split_there xs i x within at_i =
-    sym (take-append-drop i xs) ∙ ap (λ (ys : List _). take i xs ++ ys) (drop_more xs i x within ∙ ap (λ (y : _). y ∷ drop (i + 1) xs) (sym at_i))
 
 -- how long words are, each behind a space
 abbrev pub words_len : List (List ℕ) → ℕ

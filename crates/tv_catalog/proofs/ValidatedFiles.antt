@@ -7,7 +7,7 @@ use Rattle.tv_formats.specs.Names.{has}
 use Rattle.tv_formats.specs.Segments.{segment_names}
 use Rattle.tv_formats.specs.declared.segment.LiveSegment.{LiveSegment}
 use Rattle.tv_machine.specs.Index.{IsFileOf}
-use Rattle.tv_machine.specs.Lines.{line}
+use Rattle.tv_events.specs.AnswerLines.{line}
 use Rattle.tv_machine.specs.ReportEvents.{damaged_files, first_unreadable, validated}
 use Rattle.tv_machine.specs.State.{State}
 use Rattle.tv_catalog.proofs.SharedLaws.{line_len, words_len, words_append}

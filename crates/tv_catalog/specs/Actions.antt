@@ -1,7 +1,8 @@
 -- What actions on the files do, in the machine's words. Nobody has to believe these: what `plan` promises
 -- ties them to the event's step.
-use Rattle.std.specs.Prelude.{ℕ, ◌≡◌, ◌≢◌, ◌⊎◌, ◌+◌, ◌++◌, ◌≤◌, Bool, not, true, List, [], ◌∷◌, find, length, codes, map, string_bytes, Option, Some, None, is_some, if◌then◌else◌}
+use Rattle.std.specs.Prelude.{ℕ, ◌≡◌, ◌≢◌, ◌⊎◌, ◌+◌, ◌++◌, ◌≤◌, Bool, not, true, List, [], ◌∷◌, find, length, codes, map, string_bytes, Option, Some, None, is_some, if◌then◌else◌, false}
 use Rattle.std.specs.List.{AllByRecursion}
+use Rattle.std.specs.Option.{IsSomeAnd}
 use Rattle.tv_formats.specs.Collections.{Collection, Collections, collectable, collection_at, done_of, failed_of, held, no_collections, with_begun}
 use Rattle.tv_formats.specs.Commits.{Commit}
 use Rattle.tv_formats.specs.Names.{has}
@@ -10,13 +11,14 @@ use Rattle.tv_machine.specs.CommitEvents.{is_sealed}
 use Rattle.tv_machine.specs.DeleteEvents.{with_deletes}
 use Rattle.tv_machine.specs.FileEvents.{opened, sealed_as, written_to, wrote}
 use Rattle.tv_machine.specs.Index.{IsFileOf, as_opened}
-use Rattle.tv_machine.specs.Lines.{line}
-use Rattle.tv_machine.specs.ReaderEvents.{snapshot_in, with_new_reader, with_reloaded}
+use Rattle.tv_events.specs.AnswerLines.{line}
+use Rattle.tv_machine.specs.ReaderEvents.{bodies_in, snapshot_in, with_new_reader, with_reloaded, without_reader}
+use Rattle.tv_machine.specs.ReloadEvents.{served, with_notices, with_reader}
 use Rattle.tv_machine.specs.ReopenEvents.{all_left}
 use Rattle.tv_machine.specs.ReportEvents.{damaged_files, first_unreadable}
-use Rattle.tv_machine.specs.Living.{living}
-use Rattle.tv_machine.specs.declared.reload_policy.ReloadPolicy.{ReloadPolicy}
-use Rattle.tv_machine.specs.State.{Catalog, Reader, Snapshot, State, StepResult, file_at, reader_at}
+use Rattle.tv_machine.specs.Living.{living, unread_by}
+use Rattle.tv_events.specs.declared.reload_policy.ReloadPolicy.{ReloadPolicy}
+use Rattle.tv_machine.specs.State.{Catalog, Locked, Read, Reader, Readers, Reload, Snapshot, State, StepResult, file_at, reader_at}
 use Rattle.tv_catalog.specs.Effects.{collection_after}
 use Rattle.tv_catalog.specs.Exhausted.{SomePassesEnd}
 use Rattle.tv_catalog.specs.declared.action.Action.{Action}
@@ -70,6 +72,8 @@ reply_in s (actions.Try number) deletes = tried_in (collection_at s.collections 
 reply_in s (actions.Validate names) deletes =
     unless_unread (first_unreadable s names.items) (damaged_files s names.items)
 reply_in s (actions.Load generation) deletes = replies.Loaded (snapshot_in s generation)
+reply_in s (actions.Read commit) deletes =
+    replies.Loaded (record { generation = 0; commit = commit; bodies = bodies_in s commit })
 reply_in s other deletes = replies.Done
 
 -- ---- what stands after it
@@ -94,6 +98,11 @@ abbrev pub after_end : State → ℕ → Option Collection → State
 after_end s number None = s
 after_end s number (Some c) = (ended s number c).1
 
+-- this commit is the current one, which took the next number, and the readers that follow commits are told
+abbrev pub with_commit : Catalog → Commit → Catalog
+with_commit c commit =
+    record c { next = c.next + 1; commit = commit; reading = with_notices c.reading }
+
 -- the state after an action of which this came
 abbrev pub after : State → Action → Reply → State
 after s (actions.Make name) replies.Done = (opened s name).1
@@ -103,7 +112,7 @@ after s (actions.Seal name) replies.Done =
     of_body s (written_to (file_at s name)) (sealed_as s name)
 after s (actions.Leave names) replies.Done = record s { files = with_left names.items s.files }
 after s (actions.Save commit text required) (replies.Saved saved) =
-    record s { catalog = record s.catalog { next = s.catalog.next + 1; commit = saved } }
+    record s { catalog = with_commit s.catalog saved }
 after s (actions.Collect living) (replies.Collected names) = without_files s names.deleted
 after s (actions.Begin living) replies.Done = record s {
   collections = with_begun s.collections (taken_beside (map string_bytes living.keys) s);
@@ -121,14 +130,37 @@ loaded_by (replies.Loaded shown) = Some shown
 loaded_by other = None
 
 -- there is a new reader, which shows what was loaded
-abbrev pub with_reader : Catalog → ReloadPolicy → Option Snapshot → Catalog
-with_reader c policy None = c
-with_reader c policy (Some shown) = with_new_reader c policy shown
+abbrev pub with_added : Catalog → ReloadPolicy → Option Snapshot → Catalog
+with_added c policy None = c
+with_added c policy (Some shown) = with_new_reader c policy shown
 
 -- the reader of this number shows what was loaded
 abbrev pub with_published : Catalog → ℕ → Option Reader → Option Snapshot → Catalog
 with_published c number (Some reader) (Some shown) = with_reloaded c number reader shown
 with_published c number other loaded = c
+
+-- the reload of this number's reader stands so from now on
+abbrev pub with_reload : Catalog → ℕ → Option Reader → Reload → Catalog
+with_reload c number None reload = c
+with_reload c number (Some reader) reload =
+    with_reader c number (record reader { reload = Some reload })
+
+-- what was loaded is what the reload of this number's reader has read
+abbrev pub with_kept : Catalog → ℕ → Option Snapshot → Catalog
+with_kept c number None = c
+with_kept c number (Some shown) =
+    with_reload c number (reader_at c number) (Read shown.commit shown.bodies)
+
+-- each of these readers with a notice shows this under its next number, and these notices end
+abbrev pub all_served : Readers → Snapshot → Readers
+all_served reading shown = record reading {
+  readers = map (λ e. (e.0, served shown.commit shown.bodies e.1)) reading.readers;
+}
+
+-- the readers with a notice show what was loaded
+abbrev pub with_delivered : Catalog → Option Snapshot → Catalog
+with_delivered c None = c
+with_delivered c (Some shown) = record c { reading = all_served c.reading shown }
 
 -- what is known beside the files after a change, where this was loaded
 abbrev pub catalog_after : Catalog → Change → Option Snapshot → Catalog
@@ -136,8 +168,13 @@ catalog_after c changes.Nothing loaded = c
 catalog_after c (changes.Deletes id segment n) loaded = with_deletes c id segment n
 catalog_after c (changes.Release id) loaded = without_live c id
 catalog_after c (changes.Reopen segments) loaded = as_opened c
-catalog_after c (changes.AddReader policy) loaded = with_reader c policy loaded
+catalog_after c (changes.AddReader policy) loaded = with_added c policy loaded
 catalog_after c (changes.Publish number) loaded = with_published c number (reader_at c number) loaded
+catalog_after c (changes.Note number commit) loaded =
+    with_reload c number (reader_at c number) (Locked commit)
+catalog_after c (changes.Keep number) loaded = with_kept c number loaded
+catalog_after c changes.Deliver loaded = with_delivered c loaded
+catalog_after c (changes.EndReader number) loaded = without_reader c number
 
 -- the state after a change, behind an action of which this came
 abbrev pub changed : State → Change → Reply → State
@@ -146,7 +183,7 @@ changed s change reply = record s { catalog = catalog_after s.catalog change (lo
 -- and what is known after an action of which this came, with this change: a commit that was saved is the
 -- current one
 abbrev pub settled : Catalog → Change → Reply → Catalog
-settled c change (replies.Saved commit) = record c { next = c.next + 1; commit = commit }
+settled c change (replies.Saved commit) = with_commit c commit
 settled c change other = catalog_after c change (loaded_by other)
 
 -- ---- the line
@@ -191,6 +228,8 @@ MayGive collections managed (actions.Validate names) reply =
     ⊎ ((name : List ℕ) × (has names.items name ≡ true) × (reply ≡ replies.Unreadable name))
 MayGive collections managed (actions.Load generation) reply =
     (shown : Snapshot) × (reply ≡ replies.Loaded shown)
+MayGive collections managed (actions.Read commit) reply =
+    (shown : Snapshot) × (reply ≡ replies.Loaded shown)
 MayGive collections managed other reply = reply ≡ replies.Done
 
 -- an action after which each name reads what it read, whatever comes of it
@@ -200,6 +239,9 @@ OnlyKeeps (actions.Leave names) = Unit {0}
 OnlyKeeps (actions.Begin living) = Unit {0}
 OnlyKeeps (actions.Validate names) = Unit {0}
 OnlyKeeps (actions.Load generation) = Unit {0}
+OnlyKeeps actions.Lock = Unit {0}
+OnlyKeeps (actions.Read commit) = Unit {0}
+OnlyKeeps actions.Unlock = Unit {0}
 OnlyKeeps actions.Reopen = Unit {0}
 OnlyKeeps other = ⊥
 
@@ -224,10 +266,11 @@ abbrev pub given_by : Action → ℕ
 given_by (actions.Begin living) = 1
 given_by other = 0
 
--- how many numbers of readers or of their snapshots a change takes
+-- how many numbers of readers, or of the snapshots of one reader, a change takes
 abbrev pub numbers_by : Change → ℕ
 numbers_by (changes.AddReader policy) = 1
 numbers_by (changes.Publish number) = 1
+numbers_by changes.Deliver = 1
 numbers_by other = 0
 
 -- every action but one that adds no bytes to a file
@@ -240,7 +283,16 @@ abbrev pub LocksMeta : Action → Type 0
 LocksMeta (actions.Collect living) = Unit {0}
 LocksMeta (actions.Begin living) = Unit {0}
 LocksMeta (actions.Load generation) = Unit {0}
+LocksMeta actions.Lock = Unit {0}
 LocksMeta other = ⊥
+
+-- whether the meta lock is kept for a reload after an action that is done, where this says whether it was
+abbrev pub keeps_lock : Action → (was_kept : Bool) → Bool
+keeps_lock actions.Lock was_kept = true
+keeps_lock (actions.Read commit) was_kept = false
+keeps_lock actions.Unlock was_kept = false
+keeps_lock actions.Reopen was_kept = false
+keeps_lock other was_kept = was_kept
 
 -- what an action may spend: the last number of a collection
 abbrev pub SpentBy : Collections → Action → Type 0
@@ -248,15 +300,22 @@ SpentBy collections (actions.Collect living) = SomePassesEnd (collection_after c
 SpentBy collections (actions.Begin living) = SomePassesEnd (collection_after collections)
 SpentBy collections other = ⊥
 
+-- a reader's reload has noted this commit, whose files are still to be read
+abbrev pub IsNoted : Catalog → Commit → Type 0
+IsNoted c commit =
+    (number : ℕ) × IsSomeAnd (reader_at c number) (λ reader. unread_by reader.reload ≡ Some commit)
+
 -- these names are those that are living
 abbrev pub AreLiving : State → (names : List (List ℕ)) → Type 0
 AreLiving s names = (n : List ℕ) → has names n ≡ has (living s.catalog) n
 
 -- what a state has to give for an action: the name of a file that is made is that of a living one; what a
--- collection spares is what is living; and what is validated is files of segments
+-- collection spares is what is living; what is validated is files of segments; and the commit whose files are
+-- read is one that a reload has noted
 abbrev pub Suits : State → Action → Type 0
 Suits s (actions.Make name) = has (living s.catalog) name ≡ true
 Suits s (actions.Collect names) = AreLiving s (map string_bytes names.keys)
 Suits s (actions.Begin names) = AreLiving s (map string_bytes names.keys)
 Suits s (actions.Validate names) = AllByRecursion IsFileOf names.items
+Suits s (actions.Read commit) = IsNoted s.catalog commit
 Suits s other = Unit {0}

@@ -3,8 +3,8 @@ use Rattle.std.specs.Prelude.{◌<◌, ◌^◌, Result, IfErr, OnOk}
 use Rattle.tv_base.specs.declared.error.TantivyError.{TantivyError}
 use Rattle.tv_base.specs.declared.error.TantivyError.TheVariants as errors
 use Rattle.tv_formats.specs.Ids.{IsId}
-use Rattle.tv_machine.specs.declared.event.Event.{Event}
-use Rattle.tv_machine.specs.declared.event.Event.TheVariants as events
+use Rattle.tv_events.specs.declared.event.Event.{Event}
+use Rattle.tv_events.specs.declared.event.Event.TheVariants as events
 
 -- an id has sixteen bytes, and a number of documents 32 bits
 abbrev pub FitsCatalog : Event → Type 0
@@ -12,8 +12,8 @@ FitsCatalog (events.Segment id) = IsId id
 FitsCatalog (events.Docs id n) = IsId id × (n < 2 ^ 32)
 FitsCatalog other = Unit {0}
 
--- an event that touches no file fails where memory was wanted, or where a number of a searcher would pass 64
--- bits, which is `spent`
+-- an event that touches no file fails where memory was wanted, or where a number of a searcher or of a snapshot
+-- would pass 64 bits, which is `spent`
 abbrev pub CatalogCause : (spent : Type 0) → TantivyError → Type 0
 CatalogCause spent errors.Memory = Unit {0}
 CatalogCause spent errors.Exhausted = spent

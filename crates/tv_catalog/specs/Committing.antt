@@ -1,15 +1,14 @@
 -- The next commit and its text, and what is answered to it.
-use Rattle.std.specs.Prelude.{ℕ, ◌≡◌, ◌<◌, ◌^◌, ◌++◌, [], ◌∷◌, List, length, codes, Option, is_some, map}
+use Rattle.std.specs.Prelude.{ℕ, ◌≡◌, ◌<◌, ◌^◌, ◌++◌, [], ◌∷◌, List, length, codes, Option, is_some}
 use Rattle.std.specs.Fmt.{decimal}
 use Rattle.hex.specs.Hex.{encode_lower}
 use Rattle.tv_formats.specs.declared.segment.LiveSegment.{LiveSegment}
-use Rattle.tv_machine.specs.Lines.{line, unless, words_of}
+use Rattle.tv_events.specs.AnswerLines.{line}
+use Rattle.tv_machine.specs.Lines.{unless, words_of}
 use Rattle.tv_machine.specs.CommitEvents.{committed, first_unsealed}
 use Rattle.tv_formats.specs.Commits.{Commit, IsCommit, printed}
 use Rattle.tv_machine.specs.State.{State, StepResult, on_catalog}
 use Rattle.tv_catalog.specs.Kept.{KeptState}
-use Rattle.std.specs.List.Sorted.{IsStrictlySortedBy}
-use Rattle.tv_formats.specs.Names.{byte_cmp}
 
 -- a commit gets the number that comes next, and this is its text
 pub record PrintsNext (kept : KeptState) (commit : Commit) (text : List ℕ) : Type 0 where
@@ -32,7 +31,3 @@ commit_sealed s payload segments =
     unless s ((is_some (first_unsealed s segments), codes "unsealed" ∷ words_of (first_unsealed s segments))
     ∷ [])
     (on_catalog s (committed s.catalog payload segments))
-
--- the segments stand in the order of their ids, each once
-abbrev pub IsSorted : List (List ℕ × LiveSegment) → Type 0
-IsSorted segments = IsStrictlySortedBy byte_cmp (map (λ e. e.0) segments)

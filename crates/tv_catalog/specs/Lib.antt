@@ -4,7 +4,6 @@ pub mod Exhausted
 pub mod Choosing
 pub mod Catalogs
 pub mod ReaderNumbers
-pub mod SearcherLines
 pub mod Committing
 pub mod Actions
 pub mod Plans

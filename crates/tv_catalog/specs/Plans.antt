@@ -1,5 +1,5 @@
 -- What planning an event promises, by what is known without asking the device.
-use Rattle.std.specs.Prelude.{ℕ, ◌≡◌, ◌≤◌, ◌<◌, ◌+◌, ◌⊎◌, ◌^◌, Bool, true, List, length, map, string_bytes, Some, None, IsSome, vec_capacity}
+use Rattle.std.specs.Prelude.{ℕ, ◌≡◌, ◌≤◌, ◌<◌, ◌+◌, ◌⊎◌, ◌^◌, Bool, false, true, List, length, map, string_bytes, Some, None, IsSome, vec_capacity}
 use Rattle.std.specs.List.{AllByRecursion}
 use Rattle.tv_base.specs.declared.error.TantivyError.{TantivyError}
 use Rattle.tv_base.specs.declared.error.TantivyError.TheVariants as errors
@@ -12,15 +12,17 @@ use Rattle.tv_machine.specs.CommitEvents.{last_stamp}
 use Rattle.tv_machine.specs.FileEvents.{written_to}
 use Rattle.tv_machine.specs.Index.{IsFileOf}
 use Rattle.tv_machine.specs.Machine.{step}
+use Rattle.tv_machine.specs.Living.{is_busy}
 use Rattle.tv_machine.specs.Readable.{read_by}
 use Rattle.tv_machine.specs.State.{Catalog, Reader, State, file_at, live_at, reader_at}
-use Rattle.tv_machine.specs.declared.event.Event.{Event}
-use Rattle.tv_machine.specs.declared.event.Event.TheVariants as events
-use Rattle.tv_catalog.specs.Actions.{AppendsSome, MayGive, OnlyKeeps, SavesNoCommit, SpentBy, Suits, LocksMeta, added_by, after, changed, given_by, line_of, step_by, numbers_by}
-use Rattle.tv_catalog.specs.Effects.{WritesByStep, LoadsCommit, TakesMetaLock, written_by}
+use Rattle.tv_events.specs.declared.event.Event.{Event}
+use Rattle.tv_events.specs.declared.event.Event.TheVariants as events
+use Rattle.tv_catalog.specs.Actions.{AppendsSome, MayGive, OnlyKeeps, SavesNoCommit, SpentBy, Suits, LocksMeta, added_by, after, catalog_after, changed, given_by, keeps_lock, line_of, loaded_by, step_by, numbers_by}
+use Rattle.tv_catalog.specs.Effects.{WritesByStep, LoadsCommit, ReadsFiles, TakesMetaLock, written_by}
 use Rattle.tv_catalog.specs.Kept.{HasUntried, KeptState}
 use Rattle.tv_catalog.specs.Committing.{PrintsNext}
 use Rattle.tv_catalog.specs.Exhausted.{IsExhausted}
+use Rattle.tv_snapshots.specs.Reloads.{CanServe}
 use Rattle.tv_catalog.specs.declared.action.Action.{Action}
 use Rattle.tv_catalog.specs.declared.action.Action.TheVariants as actions
 use Rattle.tv_catalog.specs.declared.action.Change.{Change}
@@ -61,7 +63,8 @@ pub record SavesNext (kept : KeptState) (commit : Commit) (text : List ℕ) (req
 
 -- What an action wants that is performed: the name of a file that is made, written or sealed is one of a
 -- segment's; a file that is written or sealed is open; a save is one of the next commit; a collection
--- spares `meta.json`; one that tries a name has one; and one that ends is unfinished.
+-- spares `meta.json`; one that tries a name has one; and one that ends is unfinished. The meta lock is kept for
+-- no reload where it is taken for one, and for one where it is given back.
 abbrev pub CanPerform : KeptState → Action → Type 0
 CanPerform kept (actions.Make name) = IsSegmentFile name
 CanPerform kept (actions.Append name bytes) =
@@ -72,6 +75,9 @@ CanPerform kept (actions.Collect living) = has (map string_bytes living.keys) me
 CanPerform kept (actions.Begin living) = has (map string_bytes living.keys) meta_name ≡ true
 CanPerform kept (actions.Try number) = HasUntried kept.collections number
 CanPerform kept (actions.End number) = IsSome (collection_at kept.collections number)
+CanPerform kept actions.Lock = is_busy kept.catalog ≡ false
+CanPerform kept (actions.Read commit) = is_busy kept.catalog ≡ true
+CanPerform kept actions.Unlock = is_busy kept.catalog ≡ true
 CanPerform kept other = Unit {0}
 
 -- a change that a catalog allows
@@ -84,13 +90,28 @@ CanChange c (changes.Reopen segments) = segments.entries ≡ c.commit.segments
 CanChange c (changes.AddReader policy) = c.reading.next_reader < last_stamp
 CanChange c (changes.Publish number) =
     (reader : Reader) × (reader_at c number ≡ Some reader) × (reader.next < last_stamp)
+CanChange c (changes.Note number commit) = (is_busy c ≡ false) × IsSome (reader_at c number)
+CanChange c (changes.Keep number) = IsSome (reader_at c number)
+CanChange c changes.Deliver = CanServe c.reading.readers
+CanChange c (changes.EndReader number) = Unit {0}
 
--- an action loads a commit where the event does, which is the current one; by any other action the event
--- reads no commit's files
+-- a change that takes no memory: each by which a reload begins or ends that holds the meta lock
+abbrev pub TakesNoMemory : Change → Type 0
+TakesNoMemory (changes.Note number commit) = Unit {0}
+TakesNoMemory (changes.Keep number) = Unit {0}
+TakesNoMemory (changes.EndReader number) = Unit {0}
+TakesNoMemory (changes.Reopen segments) = Unit {0}
+TakesNoMemory other = ⊥
+
+-- an action loads a commit where the event does, which is the current one, or reads the files of one where the
+-- event does; by any other action the event reads no commit's files
 abbrev pub LoadsFor : KeptState → Event → Action → Type 0
 LoadsFor kept event (actions.Load generation) =
     LoadsCommit kept.catalog event
     × ((s : State) → InMemory kept s → read_by s event ≡ Some s.catalog.commit)
+LoadsFor kept event (actions.Read commit) =
+    ReadsFiles kept.catalog event
+    × ((s : State) → InMemory kept s → read_by s event ≡ Some commit)
 LoadsFor kept event other = (s : State) → InMemory kept s → read_by s event ≡ None
 
 -- an action beside which an event may change what is known: one that leaves what is read, and not of a
@@ -109,8 +130,9 @@ SavesOnlyAt other action = SavesNoCommit action
 -- which goes with actions alone that leave what is read, and with no commit; there is room for each line
 -- that may be told of it; it adds no more bytes and takes no more numbers than the event does, and it adds
 -- none to an open file only where the event does so; it takes the lock and loads a commit as the event does,
--- and saves one only for an event that commits; and no number and no length passes 64 bits but what the
--- action may spend.
+-- and saves one only for an event that commits; the action keeps the lock for a reload exactly where one waits
+-- for its files afterwards, and one that takes or gives it back goes with a change that takes no memory; and no
+-- number and no length passes 64 bits but what the action may spend.
 pub record Plans (kept : KeptState) (event : Event) (planned : Planned) : Type 0 where
   pub steps : (s : State) → InMemory kept s → (deletes : List Bool)
       → step s event deletes ≡ step_by s planned.action planned.change planned.line.items deletes
@@ -129,6 +151,11 @@ pub record Plans (kept : KeptState) (event : Event) (planned : Planned) : Type 0
   pub locks : LocksMeta planned.action → TakesMetaLock kept.catalog event
   pub unlocked : TakesMetaLock kept.catalog event → LocksMeta planned.action
   pub loads : LoadsFor kept event planned.action
+  pub keeps : (reply : Reply) → MayGive kept.collections kept.managed planned.action reply
+      → is_busy (catalog_after kept.catalog planned.change (loaded_by reply))
+      ≡ keeps_lock planned.action (is_busy kept.catalog)
+  pub sure : (keeps_lock planned.action (is_busy kept.catalog) ≡ is_busy kept.catalog)
+      ⊎ TakesNoMemory planned.change
   pub saves : SavesOnlyAt event planned.action
   pub fits : IsExhausted kept event → SpentBy kept.collections planned.action
   pub spends : SpentBy kept.collections planned.action → IsExhausted kept event

@@ -1,10 +1,10 @@
 //! What a planned event does to the files, what came of it, and what it changes beside them.
-use crate::commit::Commit;
-use crate::snapshot::Snapshot;
 use std::collections::{BTreeMap, BTreeSet};
 use std::marker::Model;
 use tv_formats::{FileName, LiveSegment, SegmentId};
 use tv_machine::{Blob, ReloadPolicy};
+use tv_snapshots::commit::Commit;
+use tv_snapshots::snapshot::Snapshot;
 
 /// What a planned event does to the files.
 #[derive(Drop)]
@@ -34,7 +34,14 @@ pub enum Action<'a> {
     /// The commit that `meta.json` means is loaded with the bodies of its files, under this number, while the
     /// meta lock is held.
     Load(u64),
-    /// The open files are left, and no collection is unfinished any more.
+    /// The meta lock is taken, and kept for a reload.
+    Lock,
+    /// The files of this commit are read, and the meta lock is given back that was kept for that.
+    Read(Commit),
+    /// The meta lock is given back that was kept for a reload.
+    Unlock,
+    /// The open files are left, no collection is unfinished any more, and the meta lock is given back where it
+    /// was kept for a reload.
     Reopen,
 }
 
@@ -112,4 +119,12 @@ pub enum Change {
     AddReader(ReloadPolicy),
     /// The reader of this number shows the commit that was loaded.
     Publish(u64),
+    /// The reader of this number has noted this commit, whose files are yet to be read.
+    Note(u64, Commit),
+    /// The files were loaded of the commit that the reader of this number has noted.
+    Keep(u64),
+    /// The readers with a notice show the commit that was loaded, and these notices end.
+    Deliver,
+    /// There is no reader of this number any more.
+    EndReader(u64),
 }

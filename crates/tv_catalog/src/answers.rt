@@ -1,6 +1,6 @@
 //! Answers that refuse an event.
 ghost use Rattle.std.specs.Prelude.{◌≡◌, [], ◌∷◌, true, codes, IfOk};
-ghost use Rattle.tv_machine.specs.Lines.{line};
+ghost use Rattle.tv_events.specs.AnswerLines.{line};
 ghost use Rattle.tv_formats.specs.Files.{has_no_feed};
 
 use std::alloc::Global;

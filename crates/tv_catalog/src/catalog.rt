@@ -1,32 +1,33 @@
 //! What is known of an index without asking its directory.
-ghost use Rattle.std.specs.Prelude.{◌≡◌, ◌<◌, ◌+◌, ◌||◌, List, ℕ, IfErr, IfOk, IsSome, None, OnErr, OnOk, option_map, map, string_bytes, Some, true};
+ghost use Rattle.std.specs.Prelude.{◌≡◌, ◌<◌, ◌+◌, ◌||◌, List, ℕ, IfErr, IfOk, None, OnErr, OnOk, map, string_bytes, Some, true};
+ghost use Rattle.std.specs.Option.{option_copied};
 ghost use Rattle.std.specs.List.{AllByRecursion, list_all};
 ghost use Rattle.tv_machine.specs.CommitEvents.{chosen, first_unknown, last_stamp};
-ghost use Rattle.tv_machine.specs.Living.{living};
+ghost use Rattle.tv_machine.specs.Living.{is_busy, living};
 ghost use Rattle.tv_machine.specs.DeleteEvents.{is_committed_delete, next_deletes, with_deletes};
 ghost use Rattle.tv_machine.specs.Index.{as_opened};
 ghost use Rattle.tv_formats.specs.Names.{at, has, is_plain};
-ghost use Rattle.tv_machine.specs.ReaderEvents.{with_new_reader, with_reloaded};
+ghost use Rattle.tv_machine.specs.ReloadEvents.{with_notices};
 ghost use Rattle.tv_machine.specs.ReportEvents.{committed_names};
 ghost use Rattle.tv_formats.specs.Commits.{Commit as CommitState, IsSegment};
 ghost use Rattle.tv_catalog.specs.Actions.{catalog_after, settled};
-ghost use Rattle.tv_catalog.specs.Plans.{CanChange};
+ghost use Rattle.tv_catalog.specs.Plans.{CanChange, TakesNoMemory};
 ghost use Rattle.tv_catalog.specs.declared.action.Reply.TheVariants as replies;
-ghost use Rattle.tv_machine.specs.State.{Reader as ReaderState, live_at, no_readers, reader_at};
+ghost use Rattle.tv_machine.specs.State.{live_at, no_readers, reader_at};
 
 use crate::action::{Change, Reply};
 use crate::chosen::choose;
-use crate::commit::{Commit, listed};
-use crate::names::{file_of, names_among, needed_names};
-use crate::readers::Readers;
-use crate::snapshot::Snapshot;
 use std::alloc::Global;
 use std::collections::{BTreeMap, BTreeSet};
 use std::marker::Model;
 use tv_base::{Exhausted, Stamper};
 use tv_formats::{DeleteMeta, FileName, LiveSegment, Memory, Opstamp, SegmentComponent, SegmentId};
-use tv_machine::ReloadPolicy;
 use tv_metas::naming::{has_name, shared_names};
+use tv_snapshots::commit::{Commit, listed};
+use tv_snapshots::names::{file_of, names_among, needed_names};
+use tv_snapshots::reader::{Reader, Reload};
+use tv_snapshots::readers::Readers;
+use tv_snapshots::snapshot::Snapshot;
 
 /// The live segments, what draws the number of the next commit, the current commit, and who reads.
 #[derive(Drop)]
@@ -105,12 +106,18 @@ impl Catalog {
         &self.commit
     }
 
-    /// Makes this commit the current one. Takes no memory.
+    /// Makes this commit the current one, and tells it to the readers that follow commits. Takes no
+    /// memory.
     pub fn set_commit(&mut self, commit: Commit)
         requires { self.old.next < last_stamp }
-        ensures { self.new ≡ record self.old { next = self.old.next + 1; commit = commit } }
+        ensures { self.new ≡ record self.old {
+          next = self.old.next + 1;
+          commit = commit;
+          reading = with_notices self.old.reading;
+        } }
     {
         self.commit = commit;
+        self.readers.tell();
         self.draw();
     }
 
@@ -153,6 +160,7 @@ impl Catalog {
     fn change(&mut self, change: Change) -> Result<(), Memory>
         requires { CanChange self.old change }
         ensures changed { OnOk result (self.new ≡ catalog_after self.old change None) }
+        ensures sure { TakesNoMemory change → IfErr result (λ error. ⊥) }
         ensures kept { OnErr result (self.new ≡ self.old) }
     {
         match change {
@@ -166,7 +174,15 @@ impl Catalog {
                 self.reopen(segments);
                 Ok(())
             }
-            Change::AddReader(_) | Change::Publish(_) => Ok(()),
+            Change::Note(number, commit) => {
+                self.readers.set_reload(number, Reload::Locked(commit));
+                Ok(())
+            }
+            Change::EndReader(number) => {
+                let _ended = self.readers.release_reader(number);
+                Ok(())
+            }
+            Change::AddReader(_) | Change::Publish(_) | Change::Keep(_) | Change::Deliver => Ok(()),
         }
     }
 
@@ -174,18 +190,27 @@ impl Catalog {
     fn change_with(&mut self, change: Change, shown: Snapshot) -> Result<(), Memory>
         requires { CanChange self.old change }
         ensures changed { OnOk result (self.new ≡ catalog_after self.old change (Some shown)) }
+        ensures sure { TakesNoMemory change → IfErr result (λ error. ⊥) }
         ensures kept { OnErr result (self.new ≡ self.old) }
     {
         match change {
-            Change::AddReader(policy) => self.add_reader(policy, shown),
-            Change::Publish(number) => self.publish(number, shown),
+            Change::AddReader(policy) => self.readers.add_reader(policy, shown),
+            Change::Publish(number) => {
+                self.readers.publish(number, shown);
+                Ok(())
+            }
+            Change::Keep(number) => {
+                self.readers.set_reload(number, Reload::Read(shown));
+                Ok(())
+            }
+            Change::Deliver => self.readers.serve(&shown),
             other => self.change(other),
         }
     }
 
     /// What is known beside the files once this came of an action: a commit that was saved is the current
-    /// one, else the change is made. Nothing takes memory after a save; where memory is wanted, all that is
-    /// known stays.
+    /// one, else the change is made. Nothing takes memory after a save, nor where the meta lock was taken
+    /// or given back for a reload; where memory is wanted, all that is known stays.
     pub fn settle(&mut self, change: Change, reply: Reply) -> Result<(), Memory>
         requires change { CanChange self.old change }
         requires next { (commit : CommitState) → reply ≡ replies.Saved commit
@@ -193,6 +218,7 @@ impl Catalog {
         ensures settled { OnOk result (self.new ≡ settled self.old change reply) }
         ensures saved { (commit : CommitState) → reply ≡ replies.Saved commit
             → IfErr result (λ error. ⊥) }
+        ensures sure { TakesNoMemory change → IfErr result (λ error. ⊥) }
         ensures kept { OnErr result (self.new ≡ self.old) }
     {
         match reply {
@@ -289,38 +315,24 @@ impl Catalog {
         shared_names(self.alloc, managed, &committed)
     }
 
-    /// The number that the next reader gets. Takes no memory.
-    pub fn next_reader(&self) -> u64
-        ensures { result ≡ self.now.reading.next_reader }
+    /// The reader of this number. Takes no memory.
+    pub(crate) fn reader(&self, number: u64) -> Option<&Reader>
+        ensures { option_copied result ≡ reader_at self.now number }
     {
-        self.readers.next_reader()
+        self.readers.reader(number)
     }
 
-    /// A new reader, which shows this snapshot.
-    pub fn add_reader(&mut self, policy: ReloadPolicy, shown: Snapshot) -> Result<(), Memory>
-        requires { self.old.reading.next_reader < last_stamp }
-        ensures added { OnOk result (self.new ≡ with_new_reader self.old policy shown) }
-        ensures kept { OnErr result (self.new ≡ self.old) }
+    /// Whether the meta lock is held for a reload. Takes no memory.
+    pub fn is_busy(&self) -> bool
+        ensures { result ≡ is_busy self.now }
     {
-        self.readers.add_reader(policy, shown)
+        self.readers.is_busy()
     }
 
-    /// The number of a reader's next snapshot, where there is such a reader. Takes no memory.
-    pub fn next_generation(&self, number: u64) -> Option<u64>
-        ensures { result ≡ option_map (λ reader. reader.next) (reader_at self.now number) }
+    /// Who reads. Takes no memory.
+    pub(crate) fn readers(&self) -> &Readers
+        ensures { result.now ≡ self.now.reading }
     {
-        self.readers.next_generation(number)
-    }
-
-    /// The reader of this number shows this snapshot from now on.
-    pub fn publish(&mut self, number: u64, shown: Snapshot) -> Result<(), Memory>
-        requires there { IsSome (reader_at self.old number) }
-        requires room { (reader : ReaderState) → reader_at self.old number ≡ Some reader
-            → reader.next < last_stamp }
-        ensures published { (reader : ReaderState) → reader_at self.old number ≡ Some reader
-            → OnOk result (self.new ≡ with_reloaded self.old number reader shown) }
-        ensures kept { OnErr result (self.new ≡ self.old) }
-    {
-        self.readers.publish(number, shown)
+        &self.readers
     }
 }

@@ -4,26 +4,28 @@ ghost use Rattle.std.specs.List.{list_all};
 ghost use Rattle.std.specs.Fmt.{decimal};
 ghost use Rattle.hex.specs.Hex.{encode_lower};
 ghost use Rattle.tv_formats.specs.Ids.{IsId};
-ghost use Rattle.tv_machine.specs.Lines.{line};
+ghost use Rattle.tv_events.specs.AnswerLines.{line};
 ghost use Rattle.tv_formats.specs.Names.{is_plain};
 ghost use Rattle.tv_machine.specs.Machine.{catalog_step};
+ghost use Rattle.tv_machine.specs.Living.{holds_lock};
 ghost use Rattle.tv_machine.specs.ReaderEvents.{release_reader_step};
+ghost use Rattle.tv_machine.specs.ReloadEvents.{reload_publish_step};
 ghost use Rattle.tv_machine.specs.ReportEvents.{managed_step};
 ghost use Rattle.tv_machine.specs.SearcherEvents.{bytes_step, release_searcher_step, searcher_step, show_step};
 ghost use Rattle.tv_machine.specs.SegmentEvents.{docs_step, is_in_use, segment_step};
 ghost use Rattle.tv_catalog.specs.Catalogs.{CatalogFaults, FitsCatalog};
-ghost use Rattle.tv_catalog.specs.Effects.{searcher_after};
-ghost use Rattle.tv_catalog.specs.Exhausted.{SomePassesEnd, SpendsSearcher};
+ghost use Rattle.tv_catalog.specs.Effects.{published_after, searcher_after};
+ghost use Rattle.tv_catalog.specs.Exhausted.{SomePassesEnd, SpendsNumber};
 
 use crate::answers::refused;
 use crate::catalog::Catalog;
-use crate::readers::BodyAnswer;
 use std::alloc::Global;
 use std::collections::BTreeSet;
 use tv_base::TantivyError;
 use tv_formats::{LiveSegment, Memory, SegmentComponent, SegmentId};
 use tv_machine::{Answer, Event};
 use tv_metas::naming::is_named;
+use tv_snapshots::readers::BodyAnswer;
 
 // The line of a new live segment.
 fn segment_line(alloc: Global, id: SegmentId) -> Result<Answer, Memory>
@@ -110,6 +112,29 @@ impl Catalog {
         Ok(answer)
     }
 
+    // A reader shows what was read for it.
+    fn publish(&mut self, number: u64) -> Result<Answer, TantivyError>
+        ensures step { IfOk result (λ answer. (answer, self.new)
+            ≡ reload_publish_step self.old number) }
+        ensures faults { CatalogFaults (SomePassesEnd (published_after self.old number)) result }
+        ensures kept { OnErr result (self.new ≡ self.old) }
+    {
+        let Some(reader) = self.readers.reader(number) else {
+            let answer = refused(self.alloc, "unknown-reader")?;
+            return Ok(answer);
+        };
+        let generation = reader.next_generation();
+        let Some(answer) = self.readers.published_line(number)? else {
+            let answer = refused(self.alloc, "no-reload")?;
+            return Ok(answer);
+        };
+        if generation == u64::MAX {
+            return Err(TantivyError::Exhausted);
+        }
+        self.readers.publish_read(number);
+        Ok(answer)
+    }
+
     // The commit that a searcher shows.
     fn show(&self, number: u64) -> Result<Answer, Memory>
         ensures { IfOk result (λ answer. (answer, self.now) ≡ show_step self.now number) }
@@ -162,6 +187,16 @@ impl Catalog {
         }
     }
 
+    // Whether the reload of this number's reader holds the meta lock. Takes no memory.
+    fn holds_lock(&self, number: u64) -> bool
+        ensures { result ≡ holds_lock self.now number }
+    {
+        match self.readers.reader(number) {
+            Some(reader) => reader.noted().is_some(),
+            None => false,
+        }
+    }
+
     /// The managed names.
     pub fn managed(&self, names: &BTreeSet<String>) -> Result<Answer, Memory>
         requires { list_all is_plain (map string_bytes names.now.keys) ≡ true }
@@ -176,7 +211,7 @@ impl Catalog {
     }
 
     /// Makes the step of an event that touches no file, and answers its line; none where the event
-    /// touches files.
+    /// touches files, or the meta lock.
     pub fn act(
         &mut self,
         managed: &BTreeSet<String>,
@@ -188,11 +223,13 @@ impl Catalog {
         ensures other { IfOk result (λ told. told ≡ None → self.new ≡ self.old) }
         ensures kept { OnErr result (self.new ≡ self.old) }
         ensures fits { IfOk result (λ told. FitsCatalog event.now) }
-        ensures faults { CatalogFaults (SpendsSearcher self.old event.now) result }
+        ensures faults { CatalogFaults (SpendsNumber self.old event.now) result }
     {
         let answer = match event {
+            Event::ReleaseReader(number) if self.holds_lock(*number) => return Ok(None),
             Event::Segment(id) => self.segment(managed, *id)?,
             Event::Docs(id, max_doc) => self.docs(*id, *max_doc)?,
+            Event::ReloadPublish(number) => self.publish(*number)?,
             Event::Searcher(number) => self.searcher(*number)?,
             Event::Show(number) => self.show(*number)?,
             Event::Bytes(number, ord, component) => self.bytes(*number, *ord, *component)?,

@@ -4,7 +4,7 @@ ghost use Rattle.std.specs.List.{list_all};
 ghost use Rattle.tv_formats.specs.Files.{has_no_feed};
 ghost use Rattle.tv_formats.specs.Names.{is_plain};
 ghost use Rattle.tv_machine.specs.CollectionEvents.{collected_line};
-ghost use Rattle.tv_machine.specs.Lines.{line};
+ghost use Rattle.tv_events.specs.AnswerLines.{line};
 ghost use Rattle.tv_catalog.specs.Kept.{texts_of};
 ghost use Rattle.tv_catalog.specs.Actions.{line_of};
 

@@ -3,9 +3,9 @@ ghost use Rattle.std.specs.Prelude.{◌≡◌, ◌≤◌, ◌∷◌, [], codes, 
 ghost use Rattle.std.specs.Fmt.{decimal};
 ghost use Rattle.tv_formats.specs.Files.{has_no_feed};
 ghost use Rattle.tv_machine.specs.FileEvents.{lacks_deletes};
-ghost use Rattle.tv_machine.specs.Lines.{line};
+ghost use Rattle.tv_events.specs.AnswerLines.{line};
 ghost use Rattle.tv_machine.specs.Machine.{catalog_step};
-ghost use Rattle.tv_machine.specs.declared.event.Event.TheVariants as events;
+ghost use Rattle.tv_events.specs.declared.event.Event.TheVariants as events;
 ghost use Rattle.tv_catalog.specs.Kept.{kept_with};
 ghost use Rattle.tv_catalog.specs.Plans.{Plans, PlanCause};
 ghost use Rattle.tv_catalog.specs.declared.action.Action.TheVariants as actions;
@@ -15,16 +15,18 @@ use crate::action::{Action, Change};
 use crate::answers::refused;
 use crate::catalog::Catalog;
 use crate::known::KnownFiles;
-use crate::names::file_of;
 use crate::plan_collections::{plan_gc, plan_gc_begin, plan_gc_end, plan_gc_step};
 use crate::plan_commit::plan_commit;
-use crate::plan_readers::{plan_reader, plan_reload};
+use crate::plan_readers::{
+    plan_deliver, plan_reader, plan_release_reader, plan_reload, plan_reload_lock, plan_reload_open,
+};
 use crate::plan_reports::plan_validate;
 use crate::plan_segments::{plan_deletes, plan_release, plan_reopen};
 use std::alloc::Global;
 use tv_base::TantivyError;
 use tv_formats::{FileName, LiveSegment, Memory, SegmentComponent, SegmentId};
 use tv_machine::{Answer, Blob, Event};
+use tv_snapshots::names::file_of;
 
 // How long the line of a taken name is.
 const TAKEN_LEN: usize = 14;
@@ -207,6 +209,10 @@ pub fn plan<'a, K: KnownFiles>(
         Event::GcEnd(number) => plan_gc_end(alloc, catalog, files, *number),
         Event::Reader(policy) => plan_reader(alloc, catalog, files, *policy),
         Event::Reload(number) => plan_reload(alloc, catalog, files, *number),
+        Event::ReloadLock(number) => plan_reload_lock(alloc, catalog, files, *number),
+        Event::ReloadOpen(number) => plan_reload_open(alloc, catalog, files, *number),
+        Event::Deliver => plan_deliver(alloc, catalog, files),
+        Event::ReleaseReader(number) => plan_release_reader(alloc, catalog, files, *number),
         Event::ReleaseSegment(id) => plan_release(alloc, catalog, files, *id),
         Event::Validate => plan_validate(alloc, catalog, files),
         Event::Reopen => plan_reopen(alloc, catalog, files),

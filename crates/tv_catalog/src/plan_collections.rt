@@ -2,8 +2,8 @@
 ghost use Rattle.std.specs.Prelude.{◌≡◌, ◌≤◌, ◌<◌, ◌+◌, ◌^◌, [], ◌∷◌, true, codes, length, map, string_bytes, vec_capacity, IfOk, IfErr, SomeIff};
 ghost use Rattle.std.specs.Fmt.{decimal};
 ghost use Rattle.tv_formats.specs.Files.{has_no_feed};
-ghost use Rattle.tv_machine.specs.Lines.{line};
-ghost use Rattle.tv_machine.specs.declared.event.Event.TheVariants as events;
+ghost use Rattle.tv_events.specs.AnswerLines.{line};
+ghost use Rattle.tv_events.specs.declared.event.Event.TheVariants as events;
 ghost use Rattle.tv_catalog.specs.Kept.{kept_with};
 ghost use Rattle.tv_catalog.specs.Plans.{Plans, PlanCause};
 
@@ -81,6 +81,10 @@ pub fn plan_gc<'a, K: KnownFiles>(
     ensures plans { IfOk result (Plans (kept_with catalog.now (K.known files.now)) events.Gc) }
     ensures cause { IfErr result (PlanCause (kept_with catalog.now (K.known files.now)) events.Gc) }
 {
+    if catalog.is_busy() {
+        let refused = refusal(alloc, "lock-busy")?;
+        return Ok(refused);
+    }
     let living = catalog.living()?;
     let line = collected_room(alloc, files.managed())?;
     Ok(Planned {
@@ -111,6 +115,10 @@ pub fn plan_gc_begin<'a, K: KnownFiles>(
     ensures plans { IfOk result (Plans (kept_with catalog.now (K.known files.now)) events.GcBegin) }
     ensures cause { IfErr result (PlanCause (kept_with catalog.now (K.known files.now)) events.GcBegin) }
 {
+    if catalog.is_busy() {
+        let refused = refusal(alloc, "lock-busy")?;
+        return Ok(refused);
+    }
     let living = catalog.living()?;
     let names = files.collectable(&living)?;
     let answer = number_line(alloc, files.next_collection())?;

@@ -1,15 +1,14 @@
 //! What is to be done for a commit.
-ghost use Rattle.std.specs.Prelude.{◌≡◌, ◌<◌, [], ◌∷◌, List, None, ℕ, codes, true, IfErr, IfOk, IfSome};
+ghost use Rattle.std.specs.Prelude.{◌≡◌, ◌<◌, [], ◌∷◌, List, None, ℕ, codes, true, IfErr, IfOk};
 ghost use Rattle.std.specs.BTreeMap.{IsOrdered};
 ghost use Rattle.std.specs.List.{AllByRecursion};
 ghost use Rattle.std.specs.Fmt.{decimal};
-ghost use Rattle.std.specs.Str.{IsUtf8};
 ghost use Rattle.tv_formats.specs.Commits.{IsCommit, IsSegment};
 ghost use Rattle.tv_formats.specs.Files.{has_no_feed};
 ghost use Rattle.tv_formats.specs.Names.{byte_cmp};
 ghost use Rattle.tv_machine.specs.CommitEvents.{chosen, first_unknown, last_stamp};
-ghost use Rattle.tv_machine.specs.Lines.{line};
-ghost use Rattle.tv_machine.specs.declared.event.Event.TheVariants as events;
+ghost use Rattle.tv_events.specs.AnswerLines.{line};
+ghost use Rattle.tv_events.specs.declared.event.Event.TheVariants as events;
 ghost use Rattle.tv_catalog.specs.Committing.{unknown_line};
 ghost use Rattle.tv_catalog.specs.Kept.{kept_with};
 ghost use Rattle.tv_catalog.specs.Plans.{Plans, PlanCause};
@@ -19,31 +18,19 @@ ghost use Rattle.tv_catalog.specs.declared.action.Change.TheVariants as changes;
 use crate::action::{Action, Change};
 use crate::answers::refused;
 use crate::catalog::Catalog;
-use crate::commit::Commit;
 use crate::known::KnownFiles;
-use crate::names::required_files;
 use crate::plan::{Planned, refusal, with_room};
 use std::alloc::Global;
 use std::collections::BTreeMap;
 use tv_base::TantivyError;
 use tv_formats::{LiveSegment, Memory, Opstamp, SegmentId};
 use tv_machine::{Answer, IdList, Text};
+use tv_snapshots::commit::{Commit, copied};
+use tv_snapshots::names::required_files;
 
 // As long as the longest line that names a file which isn't sealed: the words, an id, the number of
 // a delete and the extension.
 pub const REFUSAL_ROOM: usize = 80;
-
-// A copy of a payload.
-fn copied(alloc: Global, payload: &Option<Text>) -> Result<Option<Text>, Memory>
-    ensures same { IfOk result (λ copy. copy ≡ payload.now) }
-    ensures text { IfOk result (λ copy. IfSome copy IsUtf8) }
-{
-    let Some(text) = payload else {
-        return Ok(None);
-    };
-    let copy = String::from_str(alloc, text.as_str())?;
-    Ok(Some(Text::new(copy)))
-}
 
 // The answer to a commit of this many segments.
 fn commit_answer(alloc: Global, opstamp: Opstamp, count: usize) -> Result<Answer, Memory>

@@ -1,7 +1,7 @@
 //! What is to be done for the event that reports on files.
 ghost use Rattle.std.specs.Prelude.{◌≡◌, ◌≤◌, ◌+◌, [], codes, length, vec_capacity, IfOk, IfErr};
-ghost use Rattle.tv_machine.specs.Lines.{line};
-ghost use Rattle.tv_machine.specs.declared.event.Event.TheVariants as events;
+ghost use Rattle.tv_events.specs.AnswerLines.{line};
+ghost use Rattle.tv_events.specs.declared.event.Event.TheVariants as events;
 ghost use Rattle.tv_catalog.specs.Kept.{kept_with};
 ghost use Rattle.tv_catalog.specs.Plans.{Plans, PlanCause};
 

@@ -3,20 +3,20 @@ ghost use Rattle.std.specs.Prelude.{◌≡◌, [], ◌∷◌, codes, IfErr, IfOk
 ghost use Rattle.std.specs.Fmt.{decimal};
 ghost use Rattle.hex.specs.Hex.{encode_lower};
 ghost use Rattle.tv_machine.specs.DeleteEvents.{delete_name};
-ghost use Rattle.tv_machine.specs.Lines.{line};
-ghost use Rattle.tv_machine.specs.declared.event.Event.TheVariants as events;
+ghost use Rattle.tv_events.specs.AnswerLines.{line};
+ghost use Rattle.tv_events.specs.declared.event.Event.TheVariants as events;
 ghost use Rattle.tv_catalog.specs.Kept.{kept_with};
 ghost use Rattle.tv_catalog.specs.Plans.{Plans, PlanCause};
 
 use crate::action::{Action, Change};
 use crate::catalog::Catalog;
 use crate::known::KnownFiles;
-use crate::names::{file_of, names_of};
 use crate::plan::{Planned, refusal};
 use std::alloc::Global;
 use tv_base::TantivyError;
 use tv_formats::{FileName, LiveSegment, Memory, Opstamp, SegmentComponent, SegmentId};
 use tv_machine::Answer;
+use tv_snapshots::names::{file_of, names_of};
 
 // The line of the deletes of a segment.
 fn deletes_line(
@@ -59,8 +59,10 @@ pub fn plan_deletes<'a, K: KnownFiles>(
     id: SegmentId,
     n: u32,
 ) -> Result<Planned<'a>, TantivyError>
-    ensures plans { IfOk result (Plans (kept_with catalog.now (K.known files.now)) (events.Deletes id n)) }
-    ensures cause { IfErr result (PlanCause (kept_with catalog.now (K.known files.now)) (events.Deletes id n)) }
+    ensures plans { IfOk result
+        (Plans (kept_with catalog.now (K.known files.now)) (events.Deletes id n)) }
+    ensures cause { IfErr result
+        (PlanCause (kept_with catalog.now (K.known files.now)) (events.Deletes id n)) }
 {
     let Some(segment) = catalog.live_segment(id) else {
         let refused = refusal(alloc, "unknown-segment")?;

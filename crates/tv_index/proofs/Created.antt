@@ -1,6 +1,7 @@
 -- An index that is made in a directory which was synced and wrapped before, or isn't.
 use Rattle.std.proofs.Common.{◌≡◌, ◌⊎◌, inl, inr, ℕ, List, [], Some, Err, refl, ap, subst, ◌∙◌}
 use Rattle.tv_base.specs.Causes.{IoCause}
+use Rattle.tv_base.specs.declared.executor.Executor.TheVariants.{SingleThread}
 use Rattle.tv_base.specs.Errors.{of_io}
 use Rattle.tv_base.specs.declared.error.TantivyError.{TantivyError}
 use Rattle.tv_base.specs.declared.io.IoError.{IoError}
@@ -37,11 +38,12 @@ module _ {D W C : Type 0} (g : Ghosts D W C) (before : D) where
   module _ (mid new : D × ManagedNames) (w : Wraps g before mid) (others : g.told.content → KeepsOtherFiles (g.view mid.0).reads (g.view new.0).reads meta_name) where
     -- it was made
     pub creates : (settings : IndexSettings) (schema : List ℕ) (none : Type 0) → SavesMeta g mid new (new_text (form_with settings schema)) → (g.view new.0).faults ≡ (g.view mid.0).faults
-        → FrameNotesUnless g.told none (g.view mid.0) (g.view new.0) → CreatesIndex g before settings schema (record { directory = new; settings = settings; schema = schema; kept = [] })
+        → FrameNotesUnless g.told none (g.view mid.0) (g.view new.0) → CreatesIndex g before settings schema (record { directory = new; settings = settings; schema = schema; kept = []; executor = SingleThread })
     creates settings schema none saves quiet frame = record {
       settings_is = refl;
       schema_is = refl;
       kept = refl;
+      executor = refl;
       saved = saves.saved;
       others = λ t n other list. others t n other list ∙ w.frame.content t n;
       listed = λ t. (mid.1.managed, w.names t, ap (λ (names : ManagedNames). names.managed) saves.names);

@@ -23,6 +23,7 @@ module _ {D W C : Type 0} (g : Ghosts D W C) (before mid : D) (asked : OnlyReads
     settings_is = h.settings_is;
     schema_is = h.schema_is;
     kept = h.kept;
+    executor = h.executor;
     saved = h.saved;
     others = λ t n other list. h.others t n other list ∙ asked.content t n;
     listed = λ t. let l = h.listed t in (l.0, listing_before (g.view before).reads (g.view mid).reads l.0 (asked.content t) l.1, l.2);

@@ -1,4 +1,5 @@
 -- How an index is opened, made and read, put together from its calls.
+use Rattle.tv_base.specs.declared.executor.Executor.{Executor}
 use Rattle.std.proofs.Common.{◌≡◌, ℕ, ◌≤◌, List, [], ◌∷◌, map, Option, Some, refl, sym, ap, subst, ◌∙◌}
 use Rattle.std.specs.Prelude.{All}
 use Rattle.std.specs.List.{AllByRecursion}
@@ -84,6 +85,6 @@ module _ {D W C : Type 0} (g : Ghosts D W C) (before : D) (wrapped : D × Manage
   }
 
 -- an index keeps all else where its directory's names stay
-pub keeps_index : {D W : Type 0} {keeps : View W → View W → Type 0} {view : D → View W} {old now : D × ManagedNames} (settings : IndexSettings) (schema : List ℕ) (kept : KeptMetas) → KeepsNames keeps view old now
-    → KeepsIndex keeps view (record { directory = old; settings = settings; schema = schema; kept = kept }) (record { directory = now; settings = settings; schema = schema; kept = kept })
-keeps_index settings schema kept h = record { form = record { directory = h; settings = refl; schema = refl }; kept = refl }
+pub keeps_index : {D W : Type 0} {keeps : View W → View W → Type 0} {view : D → View W} {old now : D × ManagedNames} (settings : IndexSettings) (schema : List ℕ) (kept : KeptMetas) (executor : Executor) → KeepsNames keeps view old now
+    → KeepsIndex keeps view (record { directory = old; settings = settings; schema = schema; kept = kept; executor = executor }) (record { directory = now; settings = settings; schema = schema; kept = kept; executor = executor })
+keeps_index settings schema kept executor h = record { form = record { directory = h; settings = refl; schema = refl; executor = refl }; kept = refl }

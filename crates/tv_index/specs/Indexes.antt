@@ -5,6 +5,8 @@ use Rattle.hex.specs.Hex.{encode_lower}
 use Rattle.tv_base.specs.Causes.{IsDevice}
 use Rattle.tv_base.specs.declared.error.TantivyError.{TantivyError}
 use Rattle.tv_base.specs.declared.error.TantivyError.TheVariants as errors
+use Rattle.tv_base.specs.declared.executor.Executor.{Executor}
+use Rattle.tv_base.specs.declared.executor.Executor.TheVariants.{SingleThread}
 use Rattle.tv_device.specs.Ram.{ram_reads}
 use Rattle.tv_device.specs.View.{View, OnlyReads}
 use Rattle.tv_device.specs.Watch.{noted}
@@ -33,18 +35,20 @@ use Rattle.tv_metas.specs.declared.index_meta.UntrackedIndexMeta.{UntrackedIndex
 use Rattle.tv_metas.specs.declared.index_settings.IndexSettings.{IndexSettings}
 
 -- an index: its directory with the managed names and the unfinished collections, its settings, the text of
--- its schema, and the segments that its inventory keeps
+-- its schema, the segments that its inventory keeps, and who runs its searches
 pub record IndexState (D : Type 0) : Type 0 where
   pub directory : D × ManagedNames
   pub settings : IndexSettings
   pub schema : List ℕ
   pub kept : KeptMetas
+  pub executor : Executor
 
--- an index shows this commit's settings and schema, and keeps no segment so far
+-- an index shows this commit's settings and schema, keeps no segment so far, and is searched by the caller
 pub record Shows {D : Type 0} (meta : UntrackedIndexMeta) (index : IndexState D) : Type 0 where
   pub settings : index.settings ≡ meta.index_settings
   pub schema : index.schema ≡ meta.schema
   pub kept : index.kept ≡ []
+  pub executor : index.executor ≡ SingleThread
 
 -- The index that stands in a directory is open, with the schema that its `meta.json` spells. Nothing was
 -- changed, and no collection was begun.
@@ -93,6 +97,7 @@ pub record CreatesIndex {D W C : Type 0} (g : Ghosts D W C) (before : D) (settin
   pub settings_is : index.settings ≡ settings
   pub schema_is : index.schema ≡ schema
   pub kept : index.kept ≡ []
+  pub executor : index.executor ≡ SingleThread
   pub saved : g.told.content
       → (g.view index.directory.0).reads meta_name ≡ Some (new_text (form_with settings schema))
   pub others : g.told.content
@@ -112,6 +117,7 @@ pub record IsNewInRam {C : Type 0} (settings : IndexSettings) (schema : List ℕ
   pub settings_is : index.settings ≡ settings
   pub schema_is : index.schema ≡ schema
   pub kept : index.kept ≡ []
+  pub executor : index.executor ≡ SingleThread
   pub managed : index.directory.1.managed ≡ meta_name ∷ []
   pub collections : index.directory.1.collections ≡ no_collections
   pub saved : ram_reads index.directory.0 meta_name ≡ Some (new_text (form_with settings schema))
@@ -132,28 +138,30 @@ pub record NotCreated {D W C : Type 0} (g : Ghosts D W C) (before : D) (form : I
   pub cause : ListRefusal g.told (g.view before) (g.view now) error
   pub frame : FrameNotesUnless g.told (IsUnrefused error) (g.view before) (g.view now)
 
--- The managed names, the unfinished collections, the settings and the schema stay, and of the directory below
--- what such a call keeps.
+-- The managed names, the unfinished collections, the settings, the schema and the executor stay, and of the
+-- directory below what such a call keeps.
 pub record KeepsForm {D W : Type 0} (keeps : View W → View W → Type 0) (view : D → View W)
     (old new : IndexState D) : Type 0 where
   pub directory : KeepsNames keeps view old.directory new.directory
   pub settings : new.settings ≡ old.settings
   pub schema : new.schema ≡ old.schema
+  pub executor : new.executor ≡ old.executor
 
--- The managed names, the unfinished collections, the settings, the schema and the segments that are kept
--- stay, and of the directory below what such a call keeps.
+-- The managed names, the unfinished collections, the settings, the schema, the executor and the segments that
+-- are kept stay, and of the directory below what such a call keeps.
 pub record KeepsIndex {D W : Type 0} (keeps : View W → View W → Type 0) (view : D → View W)
     (old new : IndexState D) : Type 0 where
   pub form : KeepsForm keeps view old new
   pub kept : new.kept ≡ old.kept
 
--- The settings, the schema and the segments that are kept stay, and of the directory below what such a call
--- keeps; names may become managed.
+-- The settings, the schema, the executor and the segments that are kept stay, and of the directory below what
+-- such a call keeps; names may become managed.
 pub record KeepsBeside {D W : Type 0} (keeps : View W → View W → Type 0) (view : D → View W)
     (old new : IndexState D) : Type 0 where
   pub below : keeps (view old.directory.0) (view new.directory.0)
   pub settings : new.settings ≡ old.settings
   pub schema : new.schema ≡ old.schema
+  pub executor : new.executor ≡ old.executor
   pub kept : new.kept ≡ old.kept
 
 -- The commit that `meta.json` means under the index's schema, with a share of each of its segments, which

@@ -1,5 +1,5 @@
 //! An index in a directory.
-ghost use Rattle.std.specs.Prelude.{◌≡◌, [], IfOk, IfErr, MatchResult, OnErr, OnOk, None, Some, false, is_some, map};
+ghost use Rattle.std.specs.Prelude.{◌≡◌, [], IfOk, IfErr, MatchResult, OnErr, OnOk, None, Some, false, is_some, map, max};
 ghost use Rattle.std.specs.Borrow.{Lends, sem};
 ghost use Rattle.std.specs.List.{list_any};
 ghost use Rattle.tv_base.specs.Entries.{is_full, one_more};
@@ -29,7 +29,7 @@ use crate::segment::Segment;
 use crate::tracking::track_segments;
 use std::alloc::Global;
 use std::marker::Model;
-use tv_base::{META_FILEPATH, OpenReadError, TantivyError};
+use tv_base::{Executor, META_FILEPATH, OpenReadError, TantivyError};
 use tv_device::{Directory, RamDirectory, WatchCall};
 use tv_formats::{Memory, SegmentId};
 use tv_managed::{ManagedDirectory, Refused};
@@ -38,8 +38,8 @@ use tv_metas::{
     IndexMeta, IndexSettings, Schema, SegmentMeta, SegmentMetaInventory, UntrackedIndexMeta, ids_of,
 };
 
-/// An index: its directory, how it is made, and the segments of which a share is out. To a contract
-/// it is the record of these.
+/// An index: its directory, how it is made, the segments of which a share is out, and who runs its
+/// searches. To a contract it is the record of these.
 ///
 /// Its commits stand in `meta.json`, which each call that shows one reads anew.
 pub struct Index<D: Directory> {
@@ -47,6 +47,7 @@ pub struct Index<D: Directory> {
     settings: IndexSettings,
     pub(crate) schema: Schema,
     inventory: SegmentMetaInventory,
+    executor: Executor,
 }
 
 impl<D: Directory> Model for Index<D> {
@@ -59,6 +60,7 @@ impl<D: Directory> Model for Index<D> {
       settings = a.settings;
       schema = a.schema;
       kept = a.inventory;
+      executor = a.executor;
     } };
 }
 
@@ -82,7 +84,7 @@ impl<D: Directory> Index<D> {
     }
 
     /// The index in a directory with managed names, made with these settings and this schema, of
-    /// whose segments no share is out. Takes no memory.
+    /// whose segments no share is out. The caller runs its searches. Takes no memory.
     pub fn from_parts(
         alloc: Global,
         directory: ManagedDirectory<D>,
@@ -94,6 +96,7 @@ impl<D: Directory> Index<D> {
           settings = settings;
           schema = schema;
           kept = [];
+          executor = Executor.SingleThread;
         } }
     {
         Index {
@@ -101,6 +104,7 @@ impl<D: Directory> Index<D> {
             settings,
             schema,
             inventory: SegmentMetaInventory::new(alloc),
+            executor: Executor::single_thread(),
         }
     }
 
@@ -212,6 +216,7 @@ impl<D: Directory> Index<D> {
             settings: _,
             schema: _,
             inventory: _,
+            executor: _,
         } = self;
         directory.into_directory()
     }
@@ -269,6 +274,36 @@ impl<D: Directory> Index<D> {
         ensures { result.now ≡ self.now.schema }
     {
         &self.schema
+    }
+
+    /// Who runs its searches: the caller, until another executor is set. Takes no memory.
+    pub fn search_executor(&self) -> &Executor
+        ensures { result.now ≡ self.now.executor }
+    {
+        &self.executor
+    }
+
+    /// Lets this executor run its searches. Takes no memory.
+    pub fn set_executor(&mut self, executor: Executor)
+        ensures { self.new ≡ record self.old { executor = executor } }
+    {
+        self.executor = executor;
+    }
+
+    /// Lets at most this many threads run its searches, where 0 is read as 1. Takes no memory.
+    pub fn set_multithread_executor(&mut self, num_threads: usize)
+        ensures { self.new ≡ record self.old
+            { executor = Executor.ThreadPool (max 1 num_threads) } }
+    {
+        self.executor = Executor::multi_thread(num_threads, "tantivy-search-");
+    }
+
+    /// Lets as many threads run its searches as there are processors, a number that is handed in; 0 is
+    /// read as 1. Takes no memory.
+    pub fn set_default_multithread_executor(&mut self, cpus: usize)
+        ensures { self.new ≡ record self.old { executor = Executor.ThreadPool (max 1 cpus) } }
+    {
+        self.set_multithread_executor(cpus);
     }
 }
 

@@ -6,11 +6,18 @@ use Rattle.std.proofs.lemmas.Bool.{false_from_ne_true, or_right}
 use Rattle.tv_formats.specs.Names.{byte_cmp, is, has, meta_name, at}
 use Rattle.tv_formats.specs.Segments.{all_required}
 use Rattle.tv_formats.specs.Collections.{done_of, held}
-use Rattle.tv_machine.specs.Living.{living}
+use Rattle.tv_machine.specs.Living.{is_busy, living}
 use Rattle.tv_machine.specs.State.{State, FileState}
-use Rattle.tv_machine.specs.CollectionEvents.{garbage, left, with_left}
+use Rattle.tv_machine.specs.CollectionEvents.{collected, collection_begun, garbage, gc_begin_step, gc_step, left, with_left}
 use Rattle.tv_formats.proofs.Entries.{text_at}
 use Rattle.tv_formats.proofs.CollectedNames.{has_without, has_append, done_within, required_of}
+
+-- where the meta lock is free, a collection isn't refused
+pub gc_free : (s : State) (outcomes : List Bool) → is_busy s.catalog ≡ false → gc_step s outcomes ≡ collected s outcomes
+gc_free s outcomes free = rw free refl
+
+pub gc_begin_free : (s : State) → is_busy s.catalog ≡ false → gc_begin_step s ≡ collection_begun s
+gc_begin_free s free = rw free refl
 
 -- a name that a collection takes is managed, isn't needed, and isn't held by another one
 pub garbage_is : (s : State) (n : List ℕ) → has (garbage s) n ≡ (not (has (living s.catalog) n || has (held s.collections) n) && has s.managed n)

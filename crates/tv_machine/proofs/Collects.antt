@@ -1,19 +1,19 @@
 -- A collection takes what nothing needs, and what failed stays.
-use Rattle.std.proofs.Common.{◌≡◌, ℕ, ◌≤◌, Bool, true, false, true≢false, not, ◌&&◌, ◌||◌, cond, List, [], ◌∷◌, ◌++◌, length, Option, None, refl, sym, ◌∙◌, arith}
+use Rattle.std.proofs.Common.{◌≡◌, ℕ, ◌≤◌, Bool, true, false, true≢false, not, ◌&&◌, ◌||◌, cond, List, [], ◌∷◌, ◌++◌, length, Option, None, refl, sym, ap, ◌∙◌, arith}
 use Rattle.std.specs.List.Sorted.{IsStrictlySortedBy}
 use Rattle.std.proofs.lemmas.Bool.{false_from_ne_true, or_right}
 use Rattle.std.proofs.lemmas.List.Kept.{IsStrictlySortedBy-filter}
 use Rattle.tv_formats.specs.Names.{byte_cmp, is, has}
 use Rattle.tv_formats.specs.Collections.{AreOnce, done_of, failed_of, held}
-use Rattle.tv_machine.specs.Living.{living}
-use Rattle.tv_machine.specs.State.{State, FileState, file_at}
-use Rattle.tv_machine.specs.CollectionEvents.{garbage}
+use Rattle.tv_machine.specs.Living.{is_busy, living}
+use Rattle.tv_machine.specs.State.{State, StepResult, FileState, file_at}
+use Rattle.tv_machine.specs.CollectionEvents.{collected, garbage, gc_step}
 use Rattle.tv_machine.specs.Machine.{Turn, after, refused_in}
 use Rattle.tv_machine.specs.Collecting.{Takes, Collects, CollectsIn}
 use Rattle.tv_formats.proofs.Entries.{is_text}
 use Rattle.tv_machine.proofs.ManagedStates.{sorted_after}
 use Rattle.tv_formats.proofs.CollectedNames.{at_without, has_without, done_within}
-use Rattle.tv_machine.proofs.CollectionStates.{garbage_is}
+use Rattle.tv_machine.proofs.CollectionStates.{garbage_is, gc_free}
 use Rattle.tv_formats.proofs.HeldNames.{once_sorted}
 
 -- what is managed, and neither living nor held
@@ -66,27 +66,33 @@ gone_file true file = refl
 gone_file false file = refl
 
 -- what a collection takes, tells and leaves
-pub collects : (s : State) (outcomes : List Bool) → IsStrictlySortedBy byte_cmp s.managed → Collects s outcomes
-collects s outcomes sorted = record {
+pub collects : (s : State) (outcomes : List Bool) → IsStrictlySortedBy byte_cmp s.managed → is_busy s.catalog ≡ false → Collects s outcomes
+collects s outcomes sorted free = record {
   takes = takes s;
   each = told (garbage s) outcomes;
   apart = λ n h. one_way (garbage s) outcomes n once h;
-  told = refl;
-  files = λ n. at_without (done_of (garbage s) outcomes) s.files n ∙ gone_file (has (done_of (garbage s) outcomes) n) (file_at s n);
-  gone = λ n h. rw (has_without (done_of (garbage s) outcomes) s.managed n, h) refl;
+  told = ap (λ (r : StepResult State). r.0) now;
+  files = λ n. ap (λ (r : StepResult State). file_at r.1 n) now ∙ at_without (done_of (garbage s) outcomes) s.files n ∙ gone_file (has (done_of (garbage s) outcomes) n) (file_at s n);
+  gone = λ n h. managed_then n ∙ (rw h refl);
   stay = λ n h.
       let managed : has s.managed n ≡ true = managed_of (has (living s.catalog) n) (has (held s.collections) n) (has s.managed n) (sym (takes s n) ∙ failed_within (garbage s) outcomes n h) in
       let spared : has (done_of (garbage s) outcomes) n ≡ false = false_from_ne_true _ (λ d. true≢false (sym h ∙ one_way (garbage s) outcomes n once d)) in
-      rw (has_without (done_of (garbage s) outcomes) s.managed n, spared) managed;
-  spared = λ n undone. rw (has_without (done_of (garbage s) outcomes) s.managed n, undone) refl;
-  catalog = refl;
-  collections = refl;
+      managed_then n ∙ (rw spared managed);
+  spared = λ n undone. managed_then n ∙ (rw undone refl);
+  catalog = ap (λ (r : StepResult State). r.1.catalog) now;
+  collections = ap (λ (r : StepResult State). r.1.collections) now;
   counted = few_failed (garbage s) outcomes;
 }
   where
+    now : gc_step s outcomes ≡ collected s outcomes
+    now = gc_free s outcomes free
+
+    managed_then : (n : List ℕ) → has (gc_step s outcomes).1.managed n ≡ (not (has (done_of (garbage s) outcomes) n) && has s.managed n)
+    managed_then n = ap (λ (r : StepResult State). has r.1.managed n) now ∙ has_without (done_of (garbage s) outcomes) s.managed n
+
     once : AreOnce (garbage s)
     once = once_sorted (garbage s) (IsStrictlySortedBy-filter byte_cmp (λ name. not (has (living s.catalog ++ held s.collections) name)) s.managed sorted)
 
 -- and so does each collection of a run
 pub collects_in : (s : State) (turns : List Turn) → IsStrictlySortedBy byte_cmp s.managed → CollectsIn s turns
-collects_in s turns sorted front rest outcomes e free = collects (after s front) outcomes (sorted_after s front sorted)
+collects_in s turns sorted front rest outcomes e free = collects (after s front) outcomes (sorted_after s front sorted) free

@@ -6,21 +6,21 @@ use Rattle.std.specs.List.{AllByRecursion}
 use Rattle.std.specs.BTreeMap.{is_at}
 use Rattle.std.proofs.lemmas.Bool.{false_from_ne_true}
 use Rattle.std.proofs.lemmas.Bool.Decides.{nat_tests}
-use Rattle.tv_machine.specs.declared.event.Event.{Event}
-use Rattle.tv_machine.specs.declared.event.Event.TheVariants as events
+use Rattle.tv_events.specs.declared.event.Event.{Event}
+use Rattle.tv_events.specs.declared.event.Event.TheVariants as events
 use Rattle.tv_formats.specs.Names.{is, has}
 use Rattle.tv_formats.specs.Collections.{Collection, AreOnce, begun, collection_at, done_of, having_tried, held, taken, without}
-use Rattle.tv_machine.specs.Living.{living}
+use Rattle.tv_machine.specs.Living.{is_busy, living}
 use Rattle.tv_machine.specs.Lines.{given}
 use Rattle.tv_machine.specs.State.{State, StepResult, FileState, file_at}
-use Rattle.tv_machine.specs.CollectionEvents.{garbage, gc_begin_step, gc_end_step, gc_step_step, having_deleted, ended, is_done, tried_first}
+use Rattle.tv_machine.specs.CollectionEvents.{collection_begun, garbage, gc_end_step, gc_step_step, having_deleted, ended, is_done, tried_first}
 use Rattle.tv_machine.specs.Machine.{Turn, NeverReopens, isnt_reopening, step, after, events_of, refused_in}
-use Rattle.tv_machine.specs.Script.{Fits}
+use Rattle.tv_events.specs.Script.{Fits}
 use Rattle.tv_machine.specs.Collecting.{LeavesOthers, Begins, Tries, Ends, NeverEnds, isnt_ending, isnt_of, IsAtOnce, in_steps, CollectsInSteps, CollectsInStepsIn, CollectsAllElse}
 use Rattle.tv_machine.specs.SoundStates.{CollectsSoundly, IsSoundState}
 use Rattle.tv_machine.proofs.Changes.{OfEachChange, after_between, step_changes}
 use Rattle.tv_formats.proofs.CollectedNames.{at_without, has_without}
-use Rattle.tv_machine.proofs.CollectionStates.{garbage_is}
+use Rattle.tv_machine.proofs.CollectionStates.{garbage_is, gc_free, gc_begin_free}
 use Rattle.tv_machine.proofs.Collects.{takes}
 use Rattle.tv_formats.proofs.HeldNames.{times, times_append, some_times, no_times, has_times, once_times, times_once, taken_held, taken_times, tried_times}
 use Rattle.tv_machine.proofs.HeldStates.{given_at}
@@ -53,10 +53,10 @@ keeps_changes s event number first never h = record {
   opens = λ id segment component e there absent. record { given = h.given; each = h.each };
   puts = λ name body file e good. record { given = h.given; each = h.each };
   commits = λ payload ids last e. record { given = h.given; each = h.each };
-  collects = λ outcomes. record { given = h.given; each = h.each };
+  collects = λ outcomes free. record { given = h.given; each = h.each };
   releases = λ id segment. record { given = h.given; each = h.each };
   deletes = λ id n segment may. record { given = h.given; each = h.each };
-  begins = record {
+  begins = λ free. record {
     given = omega (arith, h.given);
     each = put_all (HasNames number first) s.collections.unfinished s.collections.next (begun (garbage s)) h.each (λ same. absurd (omega (arith, same, h.given)));
   };
@@ -105,10 +105,10 @@ stays_changes s event number never h = record {
   opens = λ id segment component e there absent. h;
   puts = λ name body file e good. h;
   commits = λ payload ids last e. h;
-  collects = λ outcomes. h;
+  collects = λ outcomes free. h;
   releases = λ id segment. h;
   deletes = λ id n segment may. h;
-  begins = put_stays s.collections.unfinished s.collections.next number (begun (garbage s)) h;
+  begins = λ free. put_stays s.collections.unfinished s.collections.next number (begun (garbage s)) h;
   tries = λ k c name left is_done step there e. put_stays s.collections.unfinished k number (having_tried c name left is_done) h;
   finishes = λ k c e there. ap is_some (gone_other s.collections.unfinished k number (ends_other event number k never e)) ∙ h;
   reopens = λ e. absurd (true≢false (sym never ∙ ap (isnt_ending number) e));
@@ -134,10 +134,10 @@ alone_changes s event number c given never h = record {
   opens = λ id segment component e there absent. h;
   puts = λ name body file e good. h;
   commits = λ payload ids last e. h;
-  collects = λ outcomes. h;
+  collects = λ outcomes free. h;
   releases = λ id segment. h;
   deletes = λ id n segment may. h;
-  begins = put_other s.collections.unfinished s.collections.next number (begun (garbage s)) (λ same. absurd (omega (arith, same, given))) ∙ h;
+  begins = λ free. put_other s.collections.unfinished s.collections.next number (begun (garbage s)) (λ same. absurd (omega (arith, same, given))) ∙ h;
   tries = λ k d name left is_done step there e. put_other s.collections.unfinished k number (having_tried d name left is_done) (steps_other event number k never step) ∙ h;
   finishes = λ k d e there. gone_other s.collections.unfinished k number (finishes_other event number k never e) ∙ h;
   reopens = λ e. absurd (true≢false (sym never ∙ ap (isnt_of number) e));
@@ -167,10 +167,10 @@ over_changes s event number never h = record {
   opens = λ id segment component e there absent. record { given = h.given; none = h.none };
   puts = λ name body file e good. record { given = h.given; none = h.none };
   commits = λ payload ids last e. record { given = h.given; none = h.none };
-  collects = λ outcomes. record { given = h.given; none = h.none };
+  collects = λ outcomes free. record { given = h.given; none = h.none };
   releases = λ id segment. record { given = h.given; none = h.none };
   deletes = λ id n segment may. record { given = h.given; none = h.none };
-  begins = record {
+  begins = λ free. record {
     given = omega (arith, h.given);
     none = put_other s.collections.unfinished s.collections.next number (begun (garbage s)) (λ same. absurd (omega (arith, same, h.given))) ∙ h.none;
   };
@@ -184,15 +184,15 @@ once s turns number never h = until_reopened (λ t. IsOver t number) (λ t event
 
 -- ---- the beginning of a collection
 
-begins : (s : State) → Begins s
-begins s = record {
+begins : (s : State) → is_busy s.catalog ≡ false → Begins s
+begins s free = let now = gc_begin_free s free in record {
   takes = takes s;
-  told = refl;
-  starts = put_found s.collections.unfinished s.collections.next (begun (garbage s));
-  next = refl;
-  files = refl;
-  managed = refl;
-  others = record { catalog = refl; others = λ other differs. put_other s.collections.unfinished s.collections.next other (begun (garbage s)) differs };
+  told = ap (λ (r : StepResult State). r.0) now;
+  starts = ap (λ (r : StepResult State). collection_at r.1.collections s.collections.next) now ∙ put_found s.collections.unfinished s.collections.next (begun (garbage s));
+  next = ap (λ (r : StepResult State). r.1.collections.next) now;
+  files = ap (λ (r : StepResult State). r.1.files) now;
+  managed = ap (λ (r : StepResult State). r.1.managed) now;
+  others = subst (λ (r : StepResult State). LeavesOthers s r.1 s.collections.next) (sym now) (record { catalog = refl; others = λ other differs. put_other s.collections.unfinished s.collections.next other (begun (garbage s)) differs });
 }
 
 -- ---- a step of a collection
@@ -331,7 +331,7 @@ few (false ∷ outcomes) h = omega arith
 
 pub collects_in_steps : (s : State) → IsSoundState s → CollectsInSteps s
 collects_in_steps s sound = let h = sound.whole.collecting in record {
-  begins = λ free. begins s;
+  begins = begins s;
   stays = stays s;
   keeps = λ turns number first later never there then n. keeps s turns number first later h never there then n;
   alone = λ event outcomes number c never there. alone s event outcomes number c h never there;
@@ -359,18 +359,21 @@ kept_needed false false true (Some file) h = refl
 kept_needed false false false None h = refl
 kept_needed false false false (Some file) h = absurd (true≢false (sym (h refl)))
 
-pub collects_at_once : (s : State) (outcomes : List Bool) → IsAtOnce s outcomes
-collects_at_once s outcomes =
-    let end = steps_end (gc_begin_step s).1 s.collections.next (begun (garbage s)) (garbage s) outcomes (put_found s.collections.unfinished s.collections.next (begun (garbage s))) refl in record {
-      files = λ n. at_without (done_of (garbage s) outcomes) s.files n ∙ sym (end.files n);
-      managed = sym end.managed;
-      catalog = sym end.catalog;
+pub collects_at_once : (s : State) (outcomes : List Bool) → is_busy s.catalog ≡ false → IsAtOnce s outcomes
+collects_at_once s outcomes free =
+    let end = steps_end (collection_begun s).1 s.collections.next (begun (garbage s)) (garbage s) outcomes (put_found s.collections.unfinished s.collections.next (begun (garbage s))) refl in
+    let now = gc_free s outcomes free in
+    let whole = ap (λ (r : StepResult State). after r.1 (in_steps s.collections.next (garbage s) outcomes)) (gc_begin_free s free) in record {
+      files = λ n. ap (λ (r : StepResult State). file_at r.1 n) now ∙ at_without (done_of (garbage s) outcomes) s.files n ∙ sym (end.files n) ∙ ap (λ (t : State). file_at t n) (sym whole);
+      managed = ap (λ (r : StepResult State). r.1.managed) now ∙ sym end.managed ∙ ap (λ (t : State). t.managed) (sym whole);
+      catalog = ap (λ (r : StepResult State). r.1.catalog) now ∙ sym end.catalog ∙ ap (λ (t : State). t.catalog) (sym whole);
     }
 
 pub collects_all_else : (s : State) → IsSoundState s → CollectsAllElse s
 collects_all_else s sound free outcomes n none =
     let gone = done_of (garbage s) outcomes in
     let taken_now : has gone n ≡ (not (has (living s.catalog) n || has (held s.collections) n) && has s.managed n) = ap (λ (l : List (List ℕ)). has l n) (all_done (garbage s) outcomes none) ∙ garbage_is s n in
-    ap is_some (at_without gone s.files n)
+    ap (λ (r : StepResult State). is_some (file_at r.1 n)) (gc_free s outcomes free)
+    ∙ ap is_some (at_without gone s.files n)
     ∙ ap (λ (b : Bool). is_some (cond (not b) (file_at s n) None)) taken_now
     ∙ kept_needed (has (living s.catalog) n) (has (held s.collections) n) (has s.managed n) (file_at s n) (sound.listed n)

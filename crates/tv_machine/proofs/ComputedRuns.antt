@@ -7,13 +7,13 @@ use Rattle.hex.specs.Hex.{encode_with}
 use Rattle.json.specs.Print.{escape_byte}
 use Rattle.tv_machine.proofs.Samples.{first_script, unrefused}
 use Rattle.tv_formats.proofs.Samples.{id_a, id_b, id_c}
-use Rattle.tv_machine.specs.declared.event.Event.TheVariants as events
+use Rattle.tv_events.specs.declared.event.Event.TheVariants as events
 use Rattle.tv_formats.specs.declared.segment.SegmentComponent.TheVariants.{Postings, Delete, Positions, FastFields, FieldNorms}
 use Rattle.tv_formats.specs.declared.segment.LiveSegment.{LiveSegment}
 use Rattle.tv_formats.specs.Names.{meta_name}
 use Rattle.tv_formats.specs.Collections.{no_collections}
 use Rattle.tv_machine.specs.State.{State, no_readers}
-use Rattle.tv_machine.specs.declared.reload_policy.ReloadPolicy.TheVariants.{Manual}
+use Rattle.tv_events.specs.declared.reload_policy.ReloadPolicy.TheVariants.{Manual}
 
 -- only the current commit is told
 pub empty_told : report first_state [] ≡ codes "open 0 0" ∷ []

@@ -5,7 +5,7 @@ use Rattle.std.specs.BTreeSet.{insert_key}
 use Rattle.hex.specs.Hex.{encode_with}
 use Rattle.tv_formats.specs.Footer.{footer, sealed}
 use Rattle.tv_machine.specs.Index.{first_state}
-use Rattle.tv_machine.specs.Lines.{line}
+use Rattle.tv_events.specs.AnswerLines.{line}
 use Rattle.tv_machine.specs.Machine.{after}
 use Rattle.tv_formats.specs.Names.{byte_cmp}
 use Rattle.tv_machine.specs.ReportEvents.{committed_names, intact_at, validated, validate_step}

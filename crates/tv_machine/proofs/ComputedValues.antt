@@ -11,7 +11,7 @@ use Rattle.tv_machine.proofs.Samples.{first_script}
 use Rattle.tv_formats.specs.Listing.{list_text}
 use Rattle.uuid.specs.Text.{by_index}
 use Rattle.tv_formats.specs.Commits.{printed, default_settings}
-use Rattle.tv_machine.specs.declared.event.Event.TheVariants as events
+use Rattle.tv_events.specs.declared.event.Event.TheVariants as events
 use Rattle.tv_formats.proofs.ComputedForms.{text_schema}
 
 -- the files that a script has made

@@ -10,7 +10,8 @@ use Rattle.serde_json.specs.Data.{Data}
 use Rattle.std.specs.List.{AllByRecursion}
 use Rattle.std.specs.BTreeMap.{is_at}
 use Rattle.std.specs.List.Sorted.{IsStrictlySortedBy}
-use Rattle.tv_machine.specs.declared.event.Event.TheVariants as events
+use Rattle.tv_events.specs.declared.event.Event.TheVariants as events
+use Rattle.tv_events.specs.declared.reload_policy.ReloadPolicy.TheVariants.{Manual}
 use Rattle.tv_formats.specs.Names.{byte_cmp, is, has, is_undotted, list_name, meta_name}
 use Rattle.tv_formats.specs.Files.{Reads}
 use Rattle.tv_formats.specs.Ids.{IsId}
@@ -19,13 +20,13 @@ use Rattle.tv_formats.specs.Schemas.{IsSchemaText}
 use Rattle.tv_formats.specs.Collections.{begun}
 use Rattle.tv_machine.specs.CollectionEvents.{garbage, gc_begin_step, gc_step}
 use Rattle.tv_machine.specs.DeleteEvents.{delete_name, deletes_step, next_deletes}
-use Rattle.tv_machine.specs.Living.{living}
+use Rattle.tv_machine.specs.Living.{is_busy, living}
 use Rattle.tv_machine.specs.NewNames.{IsNewDelete}
 use Rattle.tv_machine.specs.ReopenEvents.{reopened}
 use Rattle.tv_machine.specs.Reopening.{found_in}
-use Rattle.tv_machine.specs.Machine.{Turn, events_of, step}
-use Rattle.tv_machine.specs.Script.{Fits}
-use Rattle.tv_machine.specs.Serving.{Serves, ServesAsSealed}
+use Rattle.tv_machine.specs.Machine.{Turn, after, events_of, step}
+use Rattle.tv_events.specs.Script.{Fits}
+use Rattle.tv_machine.specs.Serving.{Serves, ServesAsSealed, ServesStates}
 use Rattle.tv_machine.specs.Collecting.{CollectsIn, CollectsInStepsIn, CollectsAllElse, Ends, IsAtOnce, Tries}
 use Rattle.tv_machine.specs.Telling.{Determined}
 use Rattle.tv_formats.specs.Commits.{default_settings, first_commit, printed}
@@ -35,7 +36,7 @@ use Rattle.tv_machine.specs.SoundStates.{IsSoundState}
 use Rattle.tv_formats.proofs.Entries.{is_text, text_at}
 use Rattle.tv_machine.proofs.HeldStates.{nothing_held}
 use Rattle.tv_machine.proofs.SoundStates.{first_sound, step_sound}
-use Rattle.tv_machine.proofs.Serving.{serves, serves_as_sealed}
+use Rattle.tv_machine.proofs.Serving.{serves, serves_as_sealed, serves_states}
 use Rattle.tv_machine.proofs.Collects.{collects_in}
 use Rattle.tv_machine.proofs.CollectsInSteps.{collects_in_steps, collects_in_steps_in, collects_at_once, collects_all_else}
 use Rattle.tv_formats.proofs.ListTexts.{written_is_list}
@@ -78,7 +79,7 @@ stray_sound = record {
   meta = refl;
   names = λ n there. subst IsFileOf (is_stray n there) (refl, λ e. absurd cc);
   listed = λ n there. subst (λ (name : List ℕ). has stray.managed name ≡ true) (is_stray n there) refl;
-  whole = record { each = (λ n required. absurd (true≢false (sym required)), tt); collecting = nothing_held stray refl ((refl, tt), (tt, tt)) };
+  whole = record { each = (λ n required. absurd (true≢false (sym required)), tt); unheld = (λ n required. absurd (true≢false (sym required)), tt); collecting = nothing_held stray refl ((refl, tt), (tt, tt)) };
   good = (λ n bytes required is. absurd (true≢false (sym required)), tt);
   live = λ n bytes required is. absurd (true≢false (sym required));
   stamps = inl (omega arith);
@@ -88,6 +89,16 @@ stray_sound = record {
 
 pub first_serves : (turns : List Turn) → Serves first_state turns
 first_serves turns = serves first_state turns refl refl
+
+-- the reader ends whose reload holds the meta lock
+pub first_frees : is_busy (after first_state ((events.Reader Manual, []) ∷ (events.ReloadLock 0, []) ∷ (events.ReleaseReader 0, []) ∷ [])).catalog ≡ false
+unfolding encode_with digits
+first_frees =
+    let front = (events.Reader Manual, []) ∷ (events.ReloadLock 0, []) ∷ [] in
+    (first_serves (front ++ (events.ReleaseReader 0, []) ∷ [])).frees front [] 0 (events.ReleaseReader 0, []) _ refl (inl refl) refl refl
+
+pub first_states : (turns : List Turn) → ServesStates first_state turns
+first_states turns = serves_states first_state turns refl first_sound
 
 pub first_as_sealed : (turns : List Turn) → AllByRecursion Fits (events_of turns) → ServesAsSealed first_state turns
 first_as_sealed turns fits = serves_as_sealed first_state turns first_sound fits
@@ -105,7 +116,7 @@ pub first_in_steps : (turns : List Turn) → AllByRecursion Fits (events_of turn
 first_in_steps turns fits = collects_in_steps_in first_state turns first_sound fits
 
 pub first_at_once : (outcomes : List Bool) → IsAtOnce first_state outcomes
-first_at_once outcomes = collects_at_once first_state outcomes
+first_at_once outcomes = collects_at_once first_state outcomes refl
 
 pub first_all_else : CollectsAllElse first_state
 first_all_else = collects_all_else first_state first_sound

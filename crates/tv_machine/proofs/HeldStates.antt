@@ -8,7 +8,7 @@ use Rattle.std.specs.List.Sorted.{IsStrictlySortedBy}
 use Rattle.std.specs.BTreeMap.{is_at}
 use Rattle.std.proofs.lemmas.Bool.{and_parts, false_from_ne_true}
 use Rattle.std.proofs.lemmas.List.Kept.{IsStrictlySortedBy-filter}
-use Rattle.tv_machine.specs.declared.event.Event.{Event}
+use Rattle.tv_events.specs.declared.event.Event.{Event}
 use Rattle.tv_formats.specs.declared.segment.DeleteMeta.{DeleteMeta}
 use Rattle.tv_formats.specs.declared.segment.LiveSegment.{LiveSegment}
 use Rattle.tv_formats.specs.Names.{byte_cmp, is, has, meta_name, at}
@@ -20,7 +20,7 @@ use Rattle.tv_machine.specs.Living.{living}
 use Rattle.tv_machine.specs.State.{Catalog, State, FileState, Open, live_at, file_at, with_file, with_live, on_catalog}
 use Rattle.tv_machine.specs.FileEvents.{opened}
 use Rattle.tv_machine.specs.CommitEvents.{chosen, committed}
-use Rattle.tv_machine.specs.CollectionEvents.{garbage, files_without, gc_begin_step, without_files, having_deleted, ended, left, released, with_left, without_live}
+use Rattle.tv_machine.specs.CollectionEvents.{garbage, files_without, collection_begun, without_files, having_deleted, ended, left, released, with_left, without_live}
 use Rattle.tv_machine.specs.DeleteEvents.{delete_name, next_deletes, with_deletes, having_deleted_docs}
 use Rattle.tv_machine.specs.ReopenEvents.{reopened}
 use Rattle.tv_machine.specs.SoundStates.{CollectsSoundly}
@@ -205,7 +205,7 @@ free_at : (s : State) → AllByRecursion (λ e. e.0 < s.collections.next) s.coll
 free_at s all number le = none_above s.collections.unfinished s.collections.next number all le
 
 -- a name that a beginning collection takes or another one holds
-begun_held : (s : State) (n : List ℕ) → has (held (gc_begin_step s).1.collections) n ≡ true → (has (held s.collections) n || has (garbage s) n) ≡ true
+begun_held : (s : State) (n : List ℕ) → has (held (collection_begun s).1.collections) n ≡ true → (has (held s.collections) n || has (garbage s) n) ≡ true
 begun_held s n is =
     let some : 1 ≤ times (held s.collections) n + times (garbage s) n = omega (arith, some_times _ n is, held_put s.collections.unfinished s.collections.next (begun (garbage s)) n) in
     either (has (held s.collections) n) refl some
@@ -214,20 +214,20 @@ begun_held s n is =
     either true e some = rw e refl
     either false e some = rw e (has_times (garbage s) n (omega (arith, no_times (held s.collections) n e, some)))
 
-begun_once : (s : State) (n : List ℕ) → CollectsSoundly s → times (held (gc_begin_step s).1.collections) n ≤ 1
+begun_once : (s : State) (n : List ℕ) → CollectsSoundly s → times (held (collection_begun s).1.collections) n ≤ 1
 begun_once s n h =
     let sorted : IsStrictlySortedBy byte_cmp (garbage s) = IsStrictlySortedBy-filter byte_cmp (λ name. not (has (living s.catalog ++ held s.collections) name)) s.managed h.sorted in
     either (has (held s.collections) n) refl (once_times (garbage s) n (once_sorted (garbage s) sorted))
   where
-    either : (b : Bool) → has (held s.collections) n ≡ b → times (garbage s) n ≤ 1 → times (held (gc_begin_step s).1.collections) n ≤ 1
+    either : (b : Bool) → has (held s.collections) n ≡ b → times (garbage s) n ≤ 1 → times (held (collection_begun s).1.collections) n ≤ 1
     either true e few =
         let none : has (garbage s) n ≡ false = garbage_is s n ∙ grind (arith, e) in
         omega (arith, held_put s.collections.unfinished s.collections.next (begun (garbage s)) n, no_times (garbage s) n none, once_times (held s.collections) n h.once)
     either false e few = omega (arith, held_put s.collections.unfinished s.collections.next (begun (garbage s)) n, no_times (held s.collections) n e, few)
 
-begun_collecting : (s : State) → CollectsSoundly s → CollectsSoundly (gc_begin_step s).1
+begun_collecting : (s : State) → CollectsSoundly s → CollectsSoundly (collection_begun s).1
 begun_collecting s h =
-    let t = (gc_begin_step s).1 in record {
+    let t = (collection_begun s).1 in record {
       managed = λ n is. by_one (has (held s.collections) n) (has (garbage s) n) (begun_held s n is) (h.managed n) (λ g. (and_parts _ (has s.managed n) (sym (garbage_is s n) ∙ g)).1);
       spared = λ n is.
           by_one (has (held s.collections) n) (has (garbage s) n) (begun_held s n is) (h.spared n) (λ g. unneeded (has (living s.catalog) n) (has (held s.collections) n) (has s.managed n) (sym (garbage_is s n) ∙ g));
@@ -247,6 +247,11 @@ tried_held : (s : State) (number : ℕ) (c : Collection) (name : List ℕ) (left
     → times (held (having_deleted s number c name left is_done).1.collections) n ≡ times (held s.collections) n
 tried_held s number c name left is_done n there e h =
     omega (arith, held_over s.collections.unfinished number c (having_tried c name left is_done) n h.ordered there, tried_times c name left is_done n e)
+
+-- what is held after it was held before
+pub tried_before : (s : State) (number : ℕ) (c : Collection) (name : List ℕ) (left : List (List ℕ)) (is_done : Bool) (n : List ℕ) → collection_at s.collections number ≡ Some c → c.untried ≡ name ∷ left → CollectsSoundly s
+    → has (held (having_deleted s number c name left is_done).1.collections) n ≡ true → has (held s.collections) n ≡ true
+tried_before s number c name left is_done n there e h is = has_times (held s.collections) n (omega (arith, some_times _ n is, tried_held s number c name left is_done n there e h))
 
 tried_none : (s : State) (number : ℕ) (c : Collection) (name : List ℕ) (left : List (List ℕ)) (is_done : Bool) (n : List ℕ) → file_at s n ≡ None → file_at (having_deleted s number c name left is_done).1 n ≡ None
 tried_none s number c name left true n none = at_without (name ∷ []) s.files n ∙ still_none (not (has (name ∷ []) n)) (file_at s n) none
@@ -268,10 +273,9 @@ tried_collecting : (s : State) (number : ℕ) (c : Collection) (name : List ℕ)
 tried_collecting s number c name left is_done there e h =
     let t = (having_deleted s number c name left is_done).1 in
     let c2 = having_tried c name left is_done in
-    let before : (n : List ℕ) → has (held t.collections) n ≡ true → has (held s.collections) n ≡ true = λ n is. has_times (held s.collections) n (omega (arith, some_times (held t.collections) n is, tried_held s number c name left is_done n there e h)) in
     record {
-      managed = λ n is. h.managed n (before n is);
-      spared = λ n is. h.spared n (before n is);
+      managed = λ n is. h.managed n (tried_before s number c name left is_done n there e h is);
+      spared = λ n is. h.spared n (tried_before s number c name left is_done n there e h is);
       once = times_once (held t.collections) (λ n. omega (arith, tried_held s number c name left is_done n there e h, once_times (held s.collections) n h.once));
       gone = gone_at t (put_all (HasGone t) s.collections.unfinished number c2 (weaker_gone s t s.collections.unfinished (tried_none s number c name left is_done) (all_gone s h)) (tried_gone s number c name left is_done (λ n done. h.gone number c n there done)));
       free = free_at t (put_all (λ e. e.0 < s.collections.next) s.collections.unfinished number c2 (all_given s h) (found (λ e. e.0 < s.collections.next) s.collections.unfinished number c (all_given s h) there));
@@ -281,7 +285,7 @@ tried_collecting s number c name left is_done there e h =
 
 -- ---- a collection is finished
 
-ended_held : (s : State) (number : ℕ) (c : Collection) (n : List ℕ) → collection_at s.collections number ≡ Some c → has (held (ended s number c).1.collections) n ≡ true → has (held s.collections) n ≡ true
+pub ended_held : (s : State) (number : ℕ) (c : Collection) (n : List ℕ) → collection_at s.collections number ≡ Some c → has (held (ended s number c).1.collections) n ≡ true → has (held s.collections) n ≡ true
 ended_held s number c n there is = has_times (held s.collections) n (omega (arith, some_times _ n is, held_gone s.collections.unfinished number c n there))
 
 -- what another collection holds isn't done by this one
@@ -325,10 +329,10 @@ collecting_changes s event h = record {
   opens = λ id segment component e there absent. opened_collecting s id segment component there h;
   puts = λ name body file e good. over_collecting s name body file e h;
   commits = λ payload ids last e. committed_collecting s payload ids h;
-  collects = λ outcomes. collected_collecting s outcomes h;
+  collects = λ outcomes free. collected_collecting s outcomes h;
   releases = λ id segment. released_collecting s id segment h;
   deletes = λ id n segment may. deleted_collecting s id n segment may h;
-  begins = begun_collecting s h;
+  begins = λ free. begun_collecting s h;
   tries = λ number c name left is_done step there e. tried_collecting s number c name left is_done there e h;
   finishes = λ number c e there. ended_collecting s number c there h;
   reopens = λ e. nothing_held (reopened s) refl h.sorted;

@@ -8,8 +8,8 @@ use Rattle.std.proofs.lemmas.List.Kept.{IsStrictlySortedBy-filter}
 use Rattle.std.proofs.lemmas.List.Elements.{All-filter}
 use Rattle.std.proofs.lemmas.List.Sums.{AllPass-from_list_all, list_all-from_AllPass}
 use Rattle.std.proofs.lemmas.Map.Views.{All-insert_key}
-use Rattle.tv_machine.specs.declared.event.Event.{Event}
-use Rattle.tv_machine.specs.declared.event.Event.TheVariants as events
+use Rattle.tv_events.specs.declared.event.Event.{Event}
+use Rattle.tv_events.specs.declared.event.Event.TheVariants as events
 use Rattle.tv_formats.specs.declared.segment.DeleteMeta.{DeleteMeta}
 use Rattle.tv_formats.specs.declared.segment.SegmentComponent.{SegmentComponent}
 use Rattle.tv_formats.specs.Names.{byte_cmp, is_plain, has}
@@ -19,7 +19,7 @@ use Rattle.tv_formats.specs.Collections.{done_of}
 use Rattle.tv_machine.specs.State.{State}
 use Rattle.tv_machine.specs.CollectionEvents.{garbage}
 use Rattle.tv_machine.specs.Machine.{Turn, step, after}
-use Rattle.tv_machine.specs.Script.{Fits}
+use Rattle.tv_events.specs.Script.{Fits}
 use Rattle.tv_machine.specs.Telling.{are_plain}
 use Rattle.tv_machine.proofs.Changes.{step_changes, after_kept}
 use Rattle.tv_formats.proofs.Entries.{sorted_put}
@@ -52,10 +52,10 @@ step_kept P s event outcomes keeps h = step_changes (λ u. P u.managed) s event 
   opens = λ id segment component e there absent. keeps.more id segment.deletes component s.managed e h;
   puts = λ name body file e good. h;
   commits = λ payload ids last e. h;
-  collects = λ outcomes. keeps.fewer (λ name. not (has (done_of (garbage s) outcomes) name)) s.managed h;
+  collects = λ outcomes free. keeps.fewer (λ name. not (has (done_of (garbage s) outcomes) name)) s.managed h;
   releases = λ id segment. h;
   deletes = λ id n segment may. h;
-  begins = h;
+  begins = λ free. h;
   tries = λ number c name left is_done step there e. h;
   finishes = λ number c e there. keeps.fewer (λ name. not (has c.done name)) s.managed h;
   reopens = λ e. h;

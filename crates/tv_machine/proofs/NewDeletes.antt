@@ -6,7 +6,7 @@ use Rattle.std.specs.Fmt.{decimal}
 use Rattle.std.specs.List.{flat_map, AllByRecursion}
 use Rattle.std.specs.BTreeMap.{is_at}
 use Rattle.std.proofs.lemmas.Bool.{false_from_ne_true, or_parts}
-use Rattle.tv_machine.specs.declared.event.Event.{Event}
+use Rattle.tv_events.specs.declared.event.Event.{Event}
 use Rattle.tv_formats.specs.declared.segment.LiveSegment.{LiveSegment}
 use Rattle.tv_formats.specs.declared.segment.DeleteMeta.{DeleteMeta}
 use Rattle.tv_formats.specs.declared.segment.SegmentComponent.{SegmentComponent}
@@ -27,7 +27,7 @@ use Rattle.tv_formats.proofs.DeleteNames.{delete_number, meta_no_delete}
 use Rattle.tv_formats.proofs.Entries.{is_itself, is_text}
 use Rattle.tv_machine.proofs.HeldStates.{living_parts}
 use Rattle.tv_formats.proofs.Required.{by_one, each_put, each_some, each_left}
-use Rattle.tv_machine.proofs.Serving.{all_weaker}
+use Rattle.tv_machine.proofs.ReaderMoves.{all_weaker}
 
 -- ---- numbers of deletes
 
@@ -102,7 +102,7 @@ order_changes s event sound h = record {
     live = λ left. higher s.catalog.next (s.catalog.next + 1) s.catalog.live (omega arith) (h.live last);
     next = one_more s.catalog.next last_stamp last h.next;
   };
-  collects = λ outcomes. h;
+  collects = λ outcomes free. h;
   releases = λ id segment. record { committed = h.committed; live = λ left. each_left (Below s.catalog.next) (is_at (byte_cmp id)) s.catalog.live (h.live left); next = h.next };
   deletes = λ id n segment may. record {
     committed = h.committed;
@@ -111,7 +111,7 @@ order_changes s event sound h = record {
         (higher s.catalog.next (s.catalog.next + 1) s.catalog.live (omega arith) (h.live may.last)) (omega arith);
     next = one_more s.catalog.next last_stamp may.last h.next;
   };
-  begins = h;
+  begins = λ free. h;
   tries = λ number c name left is_done step there e. h;
   finishes = λ number c e there. h;
   reopens = λ e. opened_in_order s.catalog (commit_fits s sound h.next) h.committed;

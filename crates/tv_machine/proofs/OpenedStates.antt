@@ -8,7 +8,9 @@ use Rattle.tv_formats.specs.Files.{Reads}
 use Rattle.tv_formats.specs.Footer.{IsGood}
 use Rattle.tv_formats.specs.Segments.{all_required}
 use Rattle.tv_formats.specs.Commits.{Commit, Settings, IsSegment}
+use Rattle.tv_formats.specs.Collections.{Collections, held}
 use Rattle.tv_machine.specs.CommitEvents.{is_sealed}
+use Rattle.tv_machine.specs.Living.{unread_commits}
 use Rattle.tv_machine.specs.State.{State, FileState, SealedFile, file_at}
 use Rattle.tv_formats.specs.Sound.{HasFiles, IsSoundMeta, IsSoundImage, FindsCommit, managed_with}
 use Rattle.tv_machine.specs.Index.{OpensTo}
@@ -19,6 +21,7 @@ use Rattle.tv_machine.proofs.Required.{required_is_file}
 use Rattle.tv_formats.proofs.MeansOne.{means_one}
 use Rattle.tv_formats.proofs.ListTexts.{listing_one}
 use Rattle.tv_machine.proofs.HeldStates.{nothing_held}
+use Rattle.tv_machine.proofs.ReaderMoves.{nobody_unread}
 use Rattle.tv_machine.proofs.SoundOpenings.{opens_managed_sorted}
 use Rattle.tv_machine.proofs.SoundStates.{stamps_after}
 use Rattle.tv_formats.proofs.SpelledCommits.{means_commit}
@@ -74,6 +77,7 @@ opens_sound settings schema reads s sound o =
     let f = has_files_of reads s.catalog.commit start.files n is in
     (f.0, o.files n (required_is_file s.catalog.commit.segments n start.segments is) ∙ ap (option_map SealedFile) f.1, f.2) in
     let good : AreGood s s.catalog.commit.segments = λ n bytes is e. let f = read n is in same_good (file_at s n) f.0 bytes f.1 f.2 e in
+    let none_else : (P : Commit → Type 0) → AllByRecursion P (unread_commits s.catalog) = λ P. subst (AllByRecursion P) (sym (nobody_unread s.catalog o.reading)) tt in
     let within : AreWithin s.catalog.commit.segments = segments_within s.catalog.commit.segments start.segments in
     record {
       meta = start.meta;
@@ -81,10 +85,14 @@ opens_sound settings schema reads s sound o =
       listed = λ n there.
           let named = o.names n there in
           start.kept n (on_list n (sound.listed n named.0 (there_reads (reads n) (sym (ap is_some (o.files n named)) ∙ there))));
-      whole = record { each = (λ n is. ap is_sealed (read n is).1, tt); collecting = nothing_held s o.collections (opens_managed_sorted settings schema reads s o) };
-      good = (good, tt);
+      whole = record {
+        each = (λ n is. ap is_sealed (read n is).1, none_else _);
+        unheld = (λ n is. ap (λ (c : Collections). has (held c) n) o.collections, none_else _);
+        collecting = nothing_held s o.collections (opens_managed_sorted settings schema reads s o);
+      };
+      good = (good, none_else _);
       live = subst (AreGood s) (sym o.live) good;
       stamps = stamps_after s.catalog.commit.opstamp s.catalog.next o.next;
-      within = (within, tt);
+      within = (within, none_else _);
       live_within = subst AreWithin (sym o.live) within;
     }

@@ -1,7 +1,7 @@
 -- Ids and scripts that the computed examples share.
 use Rattle.std.proofs.Common.{List, [], ◌∷◌, map, codes, None}
-use Rattle.tv_machine.specs.declared.event.Event.{Event}
-use Rattle.tv_machine.specs.declared.event.Event.TheVariants as events
+use Rattle.tv_events.specs.declared.event.Event.{Event}
+use Rattle.tv_events.specs.declared.event.Event.TheVariants as events
 use Rattle.tv_formats.specs.declared.segment.SegmentComponent.TheVariants.{Postings, Positions, FastFields, FieldNorms, Terms, Store}
 use Rattle.tv_machine.specs.Machine.{Turn}
 use Rattle.tv_formats.proofs.Samples.{id_a}

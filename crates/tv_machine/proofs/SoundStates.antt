@@ -1,13 +1,14 @@
 -- States stay sound from event to event, and a directory that holds a sound state is sound.
 use Rattle.std.proofs.Common.{◌≡◌, ◌≢◌, ◌≤◌, ◌==◌, ◌⊎◌, ◌<◌, ◌+◌, inl, inr, ℕ, Bool, true, false, true≢false, not, ◌||◌, cond, List, [], ◌∷◌, Option, Some, None, refl, sym, ap, subst, ◌∙◌, arith}
 use Rattle.std.specs.Prelude.{IsSome, is_some, option_map}
+use Rattle.std.specs.List.{AllByRecursion}
 use Rattle.std.specs.List.Sorted.{IsStrictlySortedBy}
 use Rattle.std.proofs.lemmas.Bool.{false_from_ne_true}
 use Rattle.std.proofs.lemmas.Bool.Decides.{nat_tests}
 use Rattle.std.specs.BTreeMap.{is_at, insert_entry}
 use Rattle.std.specs.BTreeSet.{insert_key}
-use Rattle.tv_machine.specs.declared.event.Event.{Event}
-use Rattle.tv_machine.specs.declared.event.Event.TheVariants as events
+use Rattle.tv_events.specs.declared.event.Event.{Event}
+use Rattle.tv_events.specs.declared.event.Event.TheVariants as events
 use Rattle.tv_formats.specs.declared.segment.DeleteMeta.{DeleteMeta}
 use Rattle.tv_formats.specs.declared.segment.LiveSegment.{LiveSegment}
 use Rattle.tv_formats.specs.declared.segment.SegmentComponent.TheVariants.{Delete}
@@ -15,22 +16,22 @@ use Rattle.tv_formats.specs.Names.{byte_cmp, is, has, is_undotted, meta_name, at
 use Rattle.tv_formats.specs.Files.{Reads}
 use Rattle.tv_formats.specs.Footer.{IsGood}
 use Rattle.tv_formats.specs.Segments.{name_of, num_deleted, required_names, all_required, is_named, fresh_segment, segment_names}
-use Rattle.tv_formats.specs.Commits.{Settings}
+use Rattle.tv_formats.specs.Commits.{Commit, Settings}
 use Rattle.tv_machine.specs.State.{State, FileState, SealedFile, Open, Left, Readers, live_at, file_at, with_live, with_file, on_catalog}
 use Rattle.tv_machine.specs.SegmentEvents.{is_in_use}
 use Rattle.tv_machine.specs.FileEvents.{opened}
 use Rattle.tv_machine.specs.CommitEvents.{is_sealed, last_stamp, chosen, committed}
 use Rattle.tv_formats.specs.Collections.{Collection, Collections, collection_at, done_of, having_tried, with_collection, without}
-use Rattle.tv_machine.specs.Living.{living}
-use Rattle.tv_machine.specs.CollectionEvents.{garbage, files_without, gc_begin_step, without_files, having_deleted, ended, left, released}
+use Rattle.tv_machine.specs.Living.{kept_commits, living}
+use Rattle.tv_machine.specs.CollectionEvents.{garbage, files_without, collection_begun, without_files, having_deleted, ended, left, released}
 use Rattle.tv_machine.specs.DeleteEvents.{delete_name, next_deletes, with_deletes, having_deleted_docs}
 use Rattle.tv_machine.specs.ReopenEvents.{reopened}
 use Rattle.tv_machine.specs.Machine.{step}
 use Rattle.tv_machine.specs.Index.{FileReads, IsFileOf, DirectoryHolds, first_state, next_after}
 use Rattle.tv_formats.specs.Sound.{IsSoundMeta, IsSoundImage}
-use Rattle.tv_machine.specs.Readable.{CanRead}
-use Rattle.tv_machine.specs.Script.{Fits}
-use Rattle.tv_machine.specs.SoundStates.{AreGood, IsWhole, IsSoundState}
+use Rattle.tv_machine.specs.Readable.{AreGoodFiles, CanRead}
+use Rattle.tv_events.specs.Script.{Fits}
+use Rattle.tv_machine.specs.SoundStates.{AreGood, AreWithin, HasSealedFiles, IsWhole, IsSoundState}
 use Rattle.tv_machine.proofs.Changes.{SegmentMove, IsNew, HasDocs, MayDelete, OfEachChange, step_changes}
 use Rattle.tv_formats.proofs.Entries.{is_itself, is_text, text_at, lookup_put, has_inserted, has_kept}
 use Rattle.tv_formats.proofs.Required.{by_one, Begins, has_files_from, required_begins, begins_named, required_put, required_deleted, required_found, required_some, required_left, each_put, each_some, each_left}
@@ -38,6 +39,7 @@ use Rattle.tv_machine.proofs.Required.{name_is_file}
 use Rattle.tv_formats.proofs.CollectedNames.{has_without, at_without}
 use Rattle.tv_machine.proofs.CollectionStates.{at_left, meta_living, living_spared}
 use Rattle.tv_machine.proofs.HeldStates.{done_held, nothing_held, unnamed}
+use Rattle.tv_machine.proofs.ReaderMoves.{ReadersMove, all_both, all_weaker, noticed_unread, unread_moved}
 use Rattle.tv_machine.proofs.WholeStates.{at_all_left, whole_changes, put_since, kept_since, left_since}
 
 -- the state of an index that was just made
@@ -47,7 +49,7 @@ first_sound = record {
   meta = refl;
   names = λ n h. absurd (true≢false (sym h));
   listed = λ n h. absurd (true≢false (sym h));
-  whole = record { each = (λ n h. absurd (true≢false (sym h)), tt); collecting = nothing_held first_state refl (tt, tt) };
+  whole = record { each = (λ n h. absurd (true≢false (sym h)), tt); unheld = (λ n h. absurd (true≢false (sym h)), tt); collecting = nothing_held first_state refl (tt, tt) };
   good = (λ n bytes required h. absurd cc, tt);
   live = λ n bytes required h. absurd cc;
   stamps = inl (omega arith);
@@ -65,6 +67,10 @@ put_good : (s : State) (name : List ℕ) (file : FileState) (segments : List (Li
 put_good s name file segments good h n bytes required is =
     put_since (is_at (byte_cmp name) n) file (file_at s n) bytes (good bytes) (h n bytes required) (rw (lookup_put s.files name n file) at is)
 
+-- the kept commits stay the same, and what was good of their files is good
+each_good : (s t : State) → ((commit : Commit) → AreGood s commit.segments → AreGood t commit.segments) → IsSoundState s → AllByRecursion (λ commit. AreGood t commit.segments) (kept_commits s.catalog)
+each_good s t f h = all_weaker (λ commit. AreGood s commit.segments) (λ commit. AreGood t commit.segments) (kept_commits s.catalog) f h.good
+
 -- a file under a managed name that is put where no sealed file stands
 put_sound : (s : State) (name : List ℕ) (file : FileState) → IsFileOf name → has s.managed name ≡ true
     → ((bytes : List ℕ) → file ≡ SealedFile bytes → IsGood bytes) → IsWhole (with_file s name file) → IsSoundState s → IsSoundState (with_file s name file)
@@ -77,7 +83,7 @@ put_sound s name file fits listed good whole h = record {
       put_some {P = has s.managed n ≡ true} (is_at (byte_cmp name) n) file (file_at s n) (λ e. subst (λ (m : List ℕ). has s.managed m ≡ true) (text_at name n e) listed) (h.listed n)
       (rw (lookup_put s.files name n file) at is);
   whole = whole;
-  good = (put_good s name file s.catalog.commit.segments good h.good.0, tt);
+  good = each_good s (with_file s name file) (λ commit. put_good s name file commit.segments good) h;
   live = put_good s name file s.catalog.live good h.live;
   stamps = h.stamps;
   within = h.within;
@@ -96,7 +102,7 @@ opened_sound s name fits whole h = record {
       (λ e. subst (λ (m : List ℕ). has (insert_key byte_cmp s.managed name) m ≡ true) (text_at name n e) (has_inserted s.managed name)) (λ there. has_kept s.managed name n (h.listed n there))
       (rw (lookup_put s.files name n (Open [])) at is);
   whole = whole;
-  good = (put_good s name (Open []) s.catalog.commit.segments (λ bytes k. absurd cc) h.good.0, tt);
+  good = each_good s (opened s name).1 (λ commit. put_good s name (Open []) commit.segments (λ bytes k. absurd cc)) h;
   live = put_good s name (Open []) s.catalog.live (λ bytes k. absurd cc) h.live;
   stamps = h.stamps;
   within = h.within;
@@ -110,16 +116,16 @@ over_open s name body file e good whole h =
     put_sound s name file (h.names name there) (h.listed name there) good whole h
 
 -- where only who reads changes
-read_sound : (s : State) (now : Readers) → IsWhole (record s { catalog = record s.catalog { reading = now } }) → IsSoundState s → IsSoundState (record s { catalog = record s.catalog { reading = now } })
-read_sound s now whole h = record {
+read_sound : (s : State) (now : Readers) → ReadersMove s now → IsWhole (record s { catalog = record s.catalog { reading = now } }) → IsSoundState s → IsSoundState (record s { catalog = record s.catalog { reading = now } })
+read_sound s now move whole h = record {
   meta = h.meta;
   names = h.names;
   listed = h.listed;
   whole = whole;
-  good = h.good;
+  good = (h.good.0, unread_moved (λ commit. AreGood s commit.segments) s now move h.good.0 h.good.1);
   live = h.live;
   stamps = h.stamps;
-  within = h.within;
+  within = (h.within.0, unread_moved (λ commit. AreWithin commit.segments) s now move h.within.0 h.within.1);
   live_within = h.live_within;
 }
 
@@ -173,10 +179,10 @@ committed_sound s payload ids whole h = record {
   names = h.names;
   listed = h.listed;
   whole = whole;
-  good = (λ n bytes required is. h.live n bytes (required_some _ s.catalog.live n required) is, tt);
+  good = (λ n bytes required is. h.live n bytes (required_some _ s.catalog.live n required) is, subst (AllByRecursion (λ commit. AreGood s commit.segments)) (sym (noticed_unread s.catalog)) h.good.1);
   live = h.live;
   stamps = inl (omega arith);
-  within = (each_some IsWithin _ s.catalog.live h.live_within, tt);
+  within = (each_some IsWithin _ s.catalog.live h.live_within, subst (AllByRecursion (λ commit. AreWithin commit.segments)) (sym (noticed_unread s.catalog)) h.within.1);
   live_within = h.live_within;
 }
 
@@ -195,7 +201,7 @@ collected_sound s gone spared whole h = record {
       let k = kept_some (has gone n) (file_at s n) (rw (at_without gone s.files n) at is) in
       rw (has_without gone s.managed n, k.1) (h.listed n k.0);
   whole = whole;
-  good = (λ n bytes required is. h.good.0 n bytes required (kept_since (not (has gone n)) (file_at s n) bytes (rw (at_without gone s.files n) at is)), tt);
+  good = each_good s (without_files s gone) (λ commit good n bytes required is. good n bytes required (kept_since (not (has gone n)) (file_at s n) bytes (rw (at_without gone s.files n) at is))) h;
   live = λ n bytes required is. h.live n bytes required (kept_since (not (has gone n)) (file_at s n) bytes (rw (at_without gone s.files n) at is));
   stamps = h.stamps;
   within = h.within;
@@ -213,7 +219,7 @@ released_sound s id segment whole h = record {
   names = λ n is. h.names n (sym (left_some (has (segment_names (id, segment)) n) (file_at s n)) ∙ (rw (at_left (segment_names (id, segment)) s.files n) at is));
   listed = λ n is. h.listed n (sym (left_some (has (segment_names (id, segment)) n) (file_at s n)) ∙ (rw (at_left (segment_names (id, segment)) s.files n) at is));
   whole = whole;
-  good = (λ n bytes required is. h.good.0 n bytes required (left_since (has (segment_names (id, segment)) n) (file_at s n) bytes (rw (at_left (segment_names (id, segment)) s.files n) at is)), tt);
+  good = each_good s (released s id segment).1 (λ commit good n bytes required is. good n bytes required (left_since (has (segment_names (id, segment)) n) (file_at s n) bytes (rw (at_left (segment_names (id, segment)) s.files n) at is))) h;
   live = λ n bytes required is.
       h.live n bytes (required_left (is_at (byte_cmp id)) s.catalog.live n required)
       (left_since (has (segment_names (id, segment)) n) (file_at s n) bytes (rw (at_left (segment_names (id, segment)) s.files n) at is));
@@ -247,7 +253,7 @@ deleted_sound s id m segment may whole h =
       names = λ n is. h.names n (sym (left_some (has former n) (file_at s n)) ∙ (rw (at_left former s.files n) at is));
       listed = λ n is. h.listed n (sym (left_some (has former n) (file_at s n)) ∙ (rw (at_left former s.files n) at is));
       whole = whole;
-      good = (λ n bytes required is. h.good.0 n bytes required (left_since (has former n) (file_at s n) bytes (rw (at_left former s.files n) at is)), tt);
+      good = each_good s (having_deleted_docs s id m segment).1 (λ commit good n bytes required is. good n bytes required (left_since (has former n) (file_at s n) bytes (rw (at_left former s.files n) at is))) h;
       live = λ n bytes required is. deleted_good s id m segment may h n bytes required (left_since (has former n) (file_at s n) bytes (rw (at_left former s.files n) at is));
       stamps = drawn s.catalog.commit.opstamp s.catalog.next last_stamp may.last h.stamps;
       within = h.within;
@@ -279,7 +285,7 @@ fewer_sound s gone collections whole h =
       names = λ n is. h.names n (before n is);
       listed = λ n is. h.listed n (before n is);
       whole = whole;
-      good = (λ n bytes required is. h.good.0 n bytes required (kept_since (not (has gone n)) (file_at s n) bytes (rw (at_without gone s.files n) at is)), tt);
+      good = each_good s (record s { files = files_without gone s.files; collections = collections }) (λ commit good n bytes required is. good n bytes required (kept_since (not (has gone n)) (file_at s n) bytes (rw (at_without gone s.files n) at is))) h;
       live = λ n bytes required is. h.live n bytes required (kept_since (not (has gone n)) (file_at s n) bytes (rw (at_without gone s.files n) at is));
       stamps = h.stamps;
       within = h.within;
@@ -330,7 +336,7 @@ reopened_sound s whole h =
       good = (good, tt);
       live = good;
       stamps = stamps_after s.catalog.commit.opstamp (next_after s.catalog.commit.opstamp) refl;
-      within = h.within;
+      within = (h.within.0, tt);
       live_within = h.within.0;
     }
 
@@ -340,16 +346,16 @@ sound_changes : (s : State) (event : Event) → Fits event → IsSoundState s �
 sound_changes s event fits h = let w = whole_changes s event h.whole in record {
   same = h;
   lives = λ id segment move. moved_sound s id segment move (w.lives id segment move) h;
-  reads = λ now move. read_sound s now (w.reads now move) h;
+  reads = λ now move. read_sound s now move (w.reads now move) h;
   opens = λ id segment component e there absent.
       let range : Fits (events.Open id component) = subst Fits e fits in
       opened_sound s (name_of id segment.deletes component) (name_is_file id segment.deletes component range.0.1.0) (w.opens id segment component e there absent) h;
   puts = λ name body file e good. over_open s name body file e good (w.puts name body file e good) h;
   commits = λ payload ids last e. committed_sound s payload ids (w.commits payload ids last e) h;
-  collects = λ outcomes. collected_sound s (done_of (garbage s) outcomes) (living_spared s outcomes) (w.collects outcomes) h;
+  collects = λ outcomes free. collected_sound s (done_of (garbage s) outcomes) (living_spared s outcomes) (w.collects outcomes free) h;
   releases = λ id segment. released_sound s id segment (w.releases id segment) h;
   deletes = λ id m segment may. deleted_sound s id m segment may (w.deletes id m segment may) h;
-  begins = other_collections s (gc_begin_step s).1.collections w.begins h;
+  begins = λ free. other_collections s (collection_begun s).1.collections (w.begins free) h;
   tries = λ number c name left is_done step there e. tried_sound s number c name left is_done (w.tries number c name left is_done step there e) h;
   finishes = λ number c e there. ended_sound s number c there (w.finishes number c e there) h;
   reopens = λ e. reopened_sound s (w.reopens e) h;
@@ -411,4 +417,7 @@ sealed_good (Some Left) e good = absurd cc
 
 -- the files that the kept commits of a sound state require can be read
 pub sound_reads : (s : State) → IsSoundState s → CanRead s
-sound_reads s h = (record { each = λ n is. sealed_good (file_at s n) (h.whole.each.0 n is) (λ bytes. h.good.0 n bytes is) }, tt)
+sound_reads s h =
+    all_weaker (λ commit. HasSealedFiles s commit × AreGood s commit.segments) (λ commit. AreGoodFiles s (all_required commit.segments)) (kept_commits s.catalog)
+    (λ commit k. record { each = λ n is. sealed_good (file_at s n) (k.0 n is) (λ bytes. k.1 n bytes is) })
+    (all_both (HasSealedFiles s) (λ commit. AreGood s commit.segments) (kept_commits s.catalog) h.whole.each h.good)

@@ -5,16 +5,17 @@ use Rattle.std.proofs.lemmas.Bool.Decides.{nat_tests}
 use Rattle.std.proofs.lemmas.List.{append_cancel_left}
 use Rattle.std.specs.List.{list_all, AllByRecursion}
 use Rattle.std.proofs.lemmas.List.Folds.{list_all-append}
-use Rattle.tv_machine.specs.declared.event.Event.{Event}
-use Rattle.tv_machine.specs.declared.event.Event.TheVariants as events
+use Rattle.tv_events.specs.declared.event.Event.{Event}
+use Rattle.tv_events.specs.declared.event.Event.TheVariants as events
 use Rattle.tv_formats.specs.Names.{is, is_name_byte, is_plain, has}
 use Rattle.tv_formats.specs.Collections.{Collection, collection_at, done_of, failed_of, held}
-use Rattle.tv_machine.specs.Living.{living}
-use Rattle.tv_machine.specs.Lines.{line, given, opening_line}
+use Rattle.tv_machine.specs.Living.{is_busy, living}
+use Rattle.tv_events.specs.AnswerLines.{line}
+use Rattle.tv_machine.specs.Lines.{unless, given, opening_line}
 use Rattle.tv_machine.specs.State.{State}
-use Rattle.tv_machine.specs.CollectionEvents.{garbage, collected_line, without_files, having_deleted, is_done, tried_first}
+use Rattle.tv_machine.specs.CollectionEvents.{collected, garbage, collected_line, without_files, having_deleted, is_done, tried_first}
 use Rattle.tv_machine.specs.Machine.{Turn, step, answers, after, events_of}
-use Rattle.tv_machine.specs.Script.{Fits}
+use Rattle.tv_events.specs.Script.{Fits}
 use Rattle.tv_machine.specs.Telling.{are_plain, Tells, TellsStep, Determined}
 use Rattle.tv_formats.proofs.PlainNames.{all_more, both, plain_parts}
 use Rattle.tv_machine.proofs.ManagedStates.{plain_filter, step_plain}
@@ -135,10 +136,17 @@ same_given : (s : State) (number : ℕ) (found : Option Collection) (a b : List 
 same_given s number None a b e = refl
 same_given s number (Some c) a b e = same_tried s number c c.untried a b e
 
+-- a collection at once, unless it is refused
+same_collected : (s : State) (busy : Bool) (a b : List Bool) → are_plain s.managed ≡ true
+    → (unless s ((busy, codes "lock-busy" ∷ []) ∷ []) (collected s a)).0 ≡ (unless s ((busy, codes "lock-busy" ∷ []) ∷ []) (collected s b)).0
+    → (unless s ((busy, codes "lock-busy" ∷ []) ∷ []) (collected s a)).1 ≡ (unless s ((busy, codes "lock-busy" ∷ []) ∷ []) (collected s b)).1
+same_collected s true a b h e = refl
+same_collected s false a b h e =
+    ap (without_files s) (tells (garbage s) (plain_filter (λ name. not (has (living s.catalog ++ held s.collections) name)) s.managed h) a b e).0
+
 -- events that tell the same come to the same state
 same_step : (s : State) (event : Event) (a b : List Bool) → are_plain s.managed ≡ true → (step s event a).0 ≡ (step s event b).0 → (step s event a).1 ≡ (step s event b).1
-same_step s events.Gc a b h e =
-    ap (without_files s) (tells (garbage s) (plain_filter (λ name. not (has (living s.catalog ++ held s.collections) name)) s.managed h) a b e).0
+same_step s events.Gc a b h e = same_collected s (is_busy s.catalog) a b h e
 same_step s (events.GcStep number) a b h e = same_given s number (collection_at s.collections number) a b e
 same_step s other a b h e = refl
 

@@ -5,7 +5,8 @@ use Rattle.std.specs.List.{flat_map}
 use Rattle.std.proofs.lemmas.Bool.{and_parts, eqb-true, eq-eqb}
 use Rattle.tv_formats.specs.Checksum.{crc32}
 use Rattle.tv_formats.specs.Footer.{body_of}
-use Rattle.tv_machine.specs.Lines.{line, unless, words_of}
+use Rattle.tv_events.specs.AnswerLines.{line}
+use Rattle.tv_machine.specs.Lines.{unless, words_of}
 use Rattle.tv_formats.specs.Segments.{segment_names}
 use Rattle.tv_formats.specs.Names.{is, has}
 use Rattle.tv_machine.specs.ReportEvents.{committed_names, damaged_files, first_unreadable, intact_at, is_damaged}

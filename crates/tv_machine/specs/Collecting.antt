@@ -2,14 +2,15 @@
 use Rattle.std.specs.Prelude.{ℕ, ◌≡◌, ◌≢◌, ◌+◌, ◌≤◌, ◌<◌, ◌==◌, Bool, true, false, not, ◌&&◌, ◌||◌, List, [], ◌∷◌, ◌++◌, length, codes, None, Some, IsSome, is_some, if◌then◌else◌}
 use Rattle.std.specs.Fmt.{decimal}
 use Rattle.std.specs.List.{list_all}
-use Rattle.tv_machine.specs.declared.event.Event.{Event}
-use Rattle.tv_machine.specs.declared.event.Event.TheVariants as events
+use Rattle.tv_events.specs.declared.event.Event.{Event}
+use Rattle.tv_events.specs.declared.event.Event.TheVariants as events
 use Rattle.tv_formats.specs.Names.{is, has}
 use Rattle.tv_formats.specs.Collections.{Collection, AreOnce, begun, collection_at, done_of, failed_of, having_tried, held, taken}
 use Rattle.tv_machine.specs.Living.{living, is_busy}
 use Rattle.tv_machine.specs.State.{State, file_at}
 use Rattle.tv_machine.specs.CollectionEvents.{garbage, collected_line, gc_begin_step, gc_end_step, gc_step, gc_step_step, is_done}
-use Rattle.tv_machine.specs.Lines.{line, refuse}
+use Rattle.tv_events.specs.AnswerLines.{line}
+use Rattle.tv_machine.specs.Lines.{refuse}
 use Rattle.tv_machine.specs.Machine.{Turn, NeverReopens, step, after, refused_in}
 
 -- these are exactly the managed names that are neither living nor held

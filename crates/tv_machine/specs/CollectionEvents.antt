@@ -6,10 +6,11 @@ use Rattle.std.specs.BTreeMap.{is_at}
 use Rattle.tv_formats.specs.declared.segment.LiveSegment.{LiveSegment}
 use Rattle.tv_formats.specs.Names.{byte_cmp, has}
 use Rattle.tv_formats.specs.Collections.{Collection, done_of, failed_of, collectable, without, held, collection_at, having_tried, with_begun, with_collection, without_collection}
-use Rattle.tv_machine.specs.Living.{living}
+use Rattle.tv_machine.specs.Living.{living, is_busy}
 use Rattle.tv_formats.specs.Segments.{segment_names}
 use Rattle.tv_machine.specs.State.{Catalog, State, StepResult, FileState, SealedFile, Open, Left, live_at}
-use Rattle.tv_machine.specs.Lines.{line, refuse, given}
+use Rattle.tv_events.specs.AnswerLines.{line}
+use Rattle.tv_machine.specs.Lines.{refuse, unless, given}
 
 -- the managed names that nothing needs and no unfinished collection holds
 abbrev pub garbage : State → List (List ℕ)
@@ -28,18 +29,26 @@ abbrev pub collected_line : List (List ℕ) → List (List ℕ) → List ℕ
 collected_line done failed = line (codes "gc deleted") done ++ 32 ∷ line (codes "failed") failed
 
 -- these names are tried at once; those that are done are gone, and those that failed stay
-abbrev pub gc_step : State → List Bool → StepResult State
-gc_step s outcomes = (
+abbrev pub collected : State → List Bool → StepResult State
+collected s outcomes = (
   collected_line (done_of (garbage s) outcomes) (failed_of (garbage s) outcomes),
   without_files s (done_of (garbage s) outcomes),
 )
 
+-- the garbage is tried at once, unless the meta lock is held
+abbrev pub gc_step : State → List Bool → StepResult State
+gc_step s outcomes = unless s ((is_busy s.catalog, codes "lock-busy" ∷ []) ∷ []) (collected s outcomes)
+
 -- a collection of these names begins
-abbrev pub gc_begin_step : State → StepResult State
-gc_begin_step s = (
+abbrev pub collection_begun : State → StepResult State
+collection_begun s = (
   line (codes "gc") (decimal s.collections.next ∷ garbage s),
   record s { collections = with_begun s.collections (garbage s) },
 )
+
+-- a collection of the garbage begins, unless the meta lock is held
+abbrev pub gc_begin_step : State → StepResult State
+gc_begin_step s = unless s ((is_busy s.catalog, codes "lock-busy" ∷ []) ∷ []) (collection_begun s)
 
 -- whether the one delete of a step is done, which it is unless it was refused
 abbrev pub is_done : List Bool → Bool

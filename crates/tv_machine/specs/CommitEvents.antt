@@ -7,7 +7,9 @@ use Rattle.tv_formats.specs.declared.segment.LiveSegment.{LiveSegment}
 use Rattle.tv_formats.specs.Names.{has}
 use Rattle.tv_formats.specs.Segments.{num_docs, all_required}
 use Rattle.tv_machine.specs.State.{Catalog, State, StepResult, FileState, SealedFile, Open, Left, live_at, file_at, on_catalog}
-use Rattle.tv_machine.specs.Lines.{line, unless, words_of}
+use Rattle.tv_events.specs.AnswerLines.{line}
+use Rattle.tv_machine.specs.Lines.{unless, words_of}
+use Rattle.tv_machine.specs.ReloadEvents.{with_notices}
 
 -- the end of 64 bits, which no commit and no delete gets
 abbrev pub last_stamp : ℕ
@@ -32,13 +34,15 @@ first_unsealed s segments = find (λ name. not (is_sealed (file_at s name))) (al
 abbrev pub first_unknown : Catalog → List (List ℕ) → Option (List ℕ)
 first_unknown c ids = find (λ id. is_none (live_at c id)) ids
 
--- these segments are the current commit, which has the next number
+-- these segments are the current commit, which has the next number, and each reader that follows commits gets
+-- a notice
 abbrev pub committed : Catalog → Option (List ℕ) → List (List ℕ × LiveSegment) → StepResult Catalog
 committed c payload segments = (
   line (codes "commit") (decimal c.next ∷ decimal (length segments) ∷ []),
   record c {
     next = c.next + 1;
     commit = record { opstamp = c.next; payload = payload; segments = segments };
+    reading = with_notices c.reading;
   },
 )
 

@@ -11,7 +11,8 @@ use Rattle.tv_machine.specs.State.{Catalog, State, StepResult, live_at, with_liv
 use Rattle.tv_formats.specs.Collections.{held}
 use Rattle.tv_machine.specs.CollectionEvents.{with_left}
 use Rattle.tv_machine.specs.CommitEvents.{last_stamp}
-use Rattle.tv_machine.specs.Lines.{line, unless, given}
+use Rattle.tv_events.specs.AnswerLines.{line}
+use Rattle.tv_machine.specs.Lines.{unless, given}
 
 -- the name of a segment's delete file
 abbrev pub delete_name : List ℕ → Option DeleteMeta → List ℕ

@@ -8,7 +8,8 @@ use Rattle.tv_formats.specs.Names.{byte_cmp}
 use Rattle.tv_formats.specs.Footer.{sealed}
 use Rattle.tv_formats.specs.Segments.{name_of, is_delete, num_deleted}
 use Rattle.tv_machine.specs.State.{State, StepResult, FileState, SealedFile, Open, Left, live_at, file_at, with_file}
-use Rattle.tv_machine.specs.Lines.{line, unless, given}
+use Rattle.tv_events.specs.AnswerLines.{line}
+use Rattle.tv_machine.specs.Lines.{unless, given}
 
 -- a new open file, whose name is managed
 abbrev pub opened : State → List ℕ → StepResult State

@@ -6,7 +6,6 @@ pub mod CommitEvents
 pub mod ReportEvents
 pub mod Machine
 pub mod Index
-pub mod Script
 pub mod SoundStates
 pub mod Living
 pub mod CollectionEvents
@@ -15,6 +14,7 @@ pub mod NewNames
 pub mod ReopenEvents
 pub mod Reopening
 pub mod ReaderEvents
+pub mod ReloadEvents
 pub mod SearcherEvents
 pub mod Readable
 pub mod Serving

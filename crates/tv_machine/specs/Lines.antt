@@ -1,13 +1,10 @@
--- How answer lines are spelled.
-use Rattle.std.specs.Prelude.{ℕ, Bool, List, [], ◌∷◌, ◌++◌, length, codes, Option, Some, None, if◌then◌else◌}
+-- What is told where an event is refused, and where an index opens.
+use Rattle.std.specs.Prelude.{ℕ, Bool, List, [], ◌∷◌, length, codes, Option, Some, None, if◌then◌else◌}
 use Rattle.std.specs.Fmt.{decimal}
+use Rattle.std.specs.List.{list_any}
 use Rattle.tv_formats.specs.Commits.{Commit}
 use Rattle.tv_machine.specs.State.{State, StepResult}
-
--- the words after the text, each behind a space
-abbrev pub line : List ℕ → List (List ℕ) → List ℕ
-line text [] = text
-line text (word ∷ words) = line (text ++ 32 ∷ word) words
+use Rattle.tv_events.specs.AnswerLines.{line}
 
 -- nothing changes, and these words say why
 abbrev pub refuse : {S : Type 0} → S → List (List ℕ) → StepResult S
@@ -18,6 +15,10 @@ refuse s words = (line (codes "refused") words, s)
 abbrev pub unless : {S : Type 0} → S → List (Bool × List (List ℕ)) → StepResult S → StepResult S
 unless s [] result = result
 unless s (refusal ∷ refusals) result = if refusal.0 then refuse s refusal.1 else unless s refusals result
+
+-- whether one of some refusals is told
+abbrev pub is_refused : List (Bool × List (List ℕ)) → Bool
+is_refused refusals = list_any (λ refusal. refusal.0) refusals
 
 -- What has to be there goes into the result; where it isn't, this word says so.
 abbrev pub given : {S X : Type 0} → S → Option X → List ℕ → (X → StepResult S) → StepResult S

@@ -1,10 +1,10 @@
 -- Which files are needed, which commits are kept, and whether a reload is under way.
-use Rattle.std.specs.Prelude.{ℕ, Bool, false, List, [], ◌∷◌, ◌++◌}
-use Rattle.std.specs.List.{flat_map}
+use Rattle.std.specs.Prelude.{ℕ, ◌≡◌, Bool, true, List, [], ◌∷◌, ◌++◌, Option, None, Some, is_some, option_and_then}
+use Rattle.std.specs.List.{AllByRecursion, filter_map, flat_map, list_any}
 use Rattle.tv_formats.specs.declared.segment.LiveSegment.{LiveSegment}
 use Rattle.tv_formats.specs.Names.{meta_name}
 use Rattle.tv_formats.specs.Commits.{Commit}
-use Rattle.tv_machine.specs.State.{Catalog}
+use Rattle.tv_machine.specs.State.{Catalog, Reader, Reload, Locked, Read, reader_at}
 use Rattle.tv_formats.specs.Segments.{segment_names}
 
 -- the commits to which the index may be opened: the current one, and those that are pinned, of which so
@@ -12,10 +12,20 @@ use Rattle.tv_formats.specs.Segments.{segment_names}
 abbrev pub current_and_pinned : Catalog → List Commit
 current_and_pinned c = c.commit ∷ []
 
--- the commits whose files are still to be read: those, and the ones that a reload under way has noted, of
--- which so far there are none
+-- the commit that a reload has noted, as long as its files are still to be read
+abbrev pub unread_by : Option Reload → Option Commit
+unread_by None = None
+unread_by (Some (Locked commit)) = Some commit
+unread_by (Some (Read commit bodies)) = None
+
+-- the commits that reloads under way have noted, and whose files are still to be read
+abbrev pub unread_commits : Catalog → List Commit
+unread_commits c = filter_map (λ e. unread_by e.1.reload) c.reading.readers
+
+-- the commits whose files are still to be read: the current one, those that are pinned, and those that
+-- reloads under way have noted
 abbrev pub kept_commits : Catalog → List Commit
-kept_commits c = current_and_pinned c
+kept_commits c = current_and_pinned c ++ unread_commits c
 
 -- the segments of these commits, and then these others
 abbrev pub segments_before : List Commit → (others : List (List ℕ × LiveSegment))
@@ -28,7 +38,23 @@ segments_before (commit ∷ commits) others = commit.segments ++ segments_before
 abbrev pub living : Catalog → List (List ℕ)
 living c = meta_name ∷ flat_map segment_names (segments_before (current_and_pinned c) c.live)
 
--- Whether the meta lock is held for a reload whose files aren't read yet. So far no reload is left
--- unfinished, so that it never is.
+-- whether this reader's reload holds the meta lock, which it does until its files are read
+abbrev pub is_locked : Reader → Bool
+is_locked reader = is_some (unread_by reader.reload)
+
+-- whether the meta lock is held for a reload whose files aren't read yet
 abbrev pub is_busy : Catalog → Bool
-is_busy c = false
+is_busy c = list_any (λ e. is_locked e.1) c.reading.readers
+
+-- whether the reload of the reader of this number holds it
+abbrev pub holds_lock : Catalog → ℕ → Bool
+holds_lock c number = is_some (option_and_then (λ reader. unread_by reader.reload) (reader_at c number))
+
+-- of these readers, only that of this number may hold the meta lock
+abbrev pub OnlyLocks : (holder : ℕ) → ℕ × Reader → Type 0
+OnlyLocks holder e = is_locked e.1 ≡ true → e.0 ≡ holder
+
+-- One of these readers at most holds the meta lock.
+pub record HasOneLock (readers : List (ℕ × Reader)) : Type 0 where
+  pub holder : ℕ
+  pub each : AllByRecursion (OnlyLocks holder) readers

@@ -1,9 +1,10 @@
 -- The machine: one step, and a run of steps.
-use Rattle.std.specs.Prelude.{ℕ, ◌≡◌, ◌+◌, Bool, true, false, not, List, [], ◌∷◌, map, filter, length, Option, Some, None}
+use Rattle.std.specs.Prelude.{ℕ, ◌≡◌, ◌+◌, Bool, true, false, not, List, [], ◌∷◌, map, filter, length, Option, Some, None, if◌then◌else◌}
 use Rattle.std.specs.List.{list_all}
-use Rattle.tv_machine.specs.declared.event.Event.{Event}
-use Rattle.tv_machine.specs.declared.event.Event.TheVariants as events
+use Rattle.tv_events.specs.declared.event.Event.{Event}
+use Rattle.tv_events.specs.declared.event.Event.TheVariants as events
 use Rattle.tv_machine.specs.State.{Catalog, State, StepResult, on_catalog}
+use Rattle.tv_machine.specs.Living.{holds_lock}
 use Rattle.tv_machine.specs.Lines.{opening_line}
 use Rattle.tv_machine.specs.SegmentEvents.{segment_step, docs_step}
 use Rattle.tv_machine.specs.FileEvents.{open_step, write_step, seal_step}
@@ -12,18 +13,22 @@ use Rattle.tv_machine.specs.CollectionEvents.{gc_step, gc_begin_step, gc_step_st
 use Rattle.tv_machine.specs.DeleteEvents.{deletes_step}
 use Rattle.tv_machine.specs.ReopenEvents.{reopen_step}
 use Rattle.tv_machine.specs.ReaderEvents.{bodies_in, reader_step, reload_step, release_reader_step}
+use Rattle.tv_machine.specs.ReloadEvents.{reload_lock_step, reload_open_step, reload_publish_step, deliver_step}
 use Rattle.tv_machine.specs.SearcherEvents.{searcher_step, show_step, bytes_step, release_searcher_step}
 use Rattle.tv_machine.specs.ReportEvents.{managed_step, validate_step}
 
--- the step of an event that needs the catalog and the managed names alone, and changes at most the catalog;
--- none of any other event
+-- The step of an event that needs the catalog and the managed names alone, and changes at most the catalog.
+-- None of any other event; none of `reload-lock`, which asks for the meta lock first; and none of the end of a
+-- reader whose reload holds that lock, which gives it back.
 abbrev pub catalog_step : Catalog → (managed : List (List ℕ)) → Event → Option (StepResult Catalog)
 catalog_step c managed (events.Segment id) = Some (segment_step c managed id)
 catalog_step c managed (events.Docs id n) = Some (docs_step c id n)
+catalog_step c managed (events.ReloadPublish number) = Some (reload_publish_step c number)
 catalog_step c managed (events.Searcher number) = Some (searcher_step c number)
 catalog_step c managed (events.Show number) = Some (show_step c number)
 catalog_step c managed (events.Bytes number ord component) = Some (bytes_step c number ord component)
-catalog_step c managed (events.ReleaseReader number) = Some (release_reader_step c number)
+catalog_step c managed (events.ReleaseReader number) =
+    if holds_lock c number then None else Some (release_reader_step c number)
 catalog_step c managed (events.ReleaseSearcher number) = Some (release_searcher_step c number)
 catalog_step c managed events.Managed = Some (managed_step c managed)
 catalog_step c managed other = None
@@ -46,6 +51,10 @@ step s (events.Reader policy) outcomes =
     on_catalog s (reader_step s.catalog policy (bodies_in s s.catalog.commit))
 step s (events.Reload number) outcomes =
     on_catalog s (reload_step s.catalog number (bodies_in s s.catalog.commit))
+step s (events.ReloadLock number) outcomes = on_catalog s (reload_lock_step s.catalog number)
+step s (events.ReloadOpen number) outcomes = on_catalog s (reload_open_step s.catalog number (bodies_in s))
+step s (events.ReloadPublish number) outcomes = on_catalog s (reload_publish_step s.catalog number)
+step s events.Deliver outcomes = on_catalog s (deliver_step s.catalog (bodies_in s s.catalog.commit))
 step s (events.Searcher number) outcomes = on_catalog s (searcher_step s.catalog number)
 step s (events.Show number) outcomes = on_catalog s (show_step s.catalog number)
 step s (events.Bytes number ord component) outcomes = on_catalog s (bytes_step s.catalog number ord component)

@@ -1,14 +1,17 @@
 -- Commits whose files can be read.
-use Rattle.std.specs.Prelude.{ℕ, ◌≡◌, true, List, [], ◌∷◌, Option, Some, None, IfSome, option_map}
-use Rattle.std.specs.List.{AllByRecursion}
-use Rattle.tv_machine.specs.declared.event.Event.{Event}
-use Rattle.tv_machine.specs.declared.event.Event.TheVariants as events
+use Rattle.std.specs.Prelude.{ℕ, ◌≡◌, true, not, ◌||◌, List, [], ◌∷◌, Option, Some, None, IfSome, option_and_then, if◌then◌else◌}
+use Rattle.std.specs.List.{AllByRecursion, list_all}
+use Rattle.tv_events.specs.declared.event.Event.{Event}
+use Rattle.tv_events.specs.declared.event.Event.TheVariants as events
 use Rattle.tv_formats.specs.Names.{has}
 use Rattle.tv_formats.specs.Footer.{IsGood}
 use Rattle.tv_formats.specs.Commits.{Commit}
-use Rattle.tv_machine.specs.Living.{kept_commits}
+use Rattle.tv_machine.specs.Living.{kept_commits, is_busy, unread_by}
 use Rattle.tv_formats.specs.Segments.{all_required}
 use Rattle.tv_machine.specs.State.{State, SealedFile, file_at, reader_at}
+use Rattle.tv_machine.specs.Lines.{is_refused}
+use Rattle.tv_machine.specs.ReaderEvents.{reload_refusals}
+use Rattle.tv_machine.specs.ReloadEvents.{deliver_refusals}
 use Rattle.tv_machine.specs.Machine.{Turn, step}
 
 -- a file is sealed, and has a body and a footer
@@ -23,11 +26,19 @@ pub record AreGoodFiles (s : State) (names : List (List ℕ)) : Type 0 where
 abbrev pub CanRead : State → Type 0
 CanRead s = AllByRecursion (λ commit. AreGoodFiles s (all_required commit.segments)) (kept_commits s.catalog)
 
--- the commit whose files an event reads, where it reads some: that of a new reader, and that of a reload of a
--- reader which is there
+-- The commit whose files an event reads, where it reads some and isn't refused: the current one for a new
+-- reader, for a reload, and where notices are served and a reader has one; and the one that a reload has
+-- noted.
 abbrev pub read_by : State → Event → Option Commit
-read_by s (events.Reader policy) = Some s.catalog.commit
-read_by s (events.Reload number) = option_map (λ reader. s.catalog.commit) (reader_at s.catalog number)
+read_by s (events.Reader policy) = if is_busy s.catalog then None else Some s.catalog.commit
+read_by s (events.Reload number) = option_and_then
+    (λ reader. if is_refused (reload_refusals s.catalog reader) then None else Some s.catalog.commit)
+    (reader_at s.catalog number)
+read_by s (events.ReloadOpen number) =
+    option_and_then (λ reader. unread_by reader.reload) (reader_at s.catalog number)
+read_by s events.Deliver =
+    if is_refused (deliver_refusals s.catalog) || list_all (λ e. not e.1.has_notice) s.catalog.reading.readers
+    then None else Some s.catalog.commit
 read_by s other = None
 
 -- an event that reads a commit's files can do so

@@ -5,7 +5,8 @@ use Rattle.tv_formats.specs.Names.{has}
 use Rattle.tv_formats.specs.Framing.{is_intact}
 use Rattle.tv_formats.specs.Segments.{segment_names}
 use Rattle.tv_machine.specs.State.{Catalog, State, StepResult, FileState, SealedFile, Open, Left, file_at}
-use Rattle.tv_machine.specs.Lines.{line, unless, words_of}
+use Rattle.tv_events.specs.AnswerLines.{line}
+use Rattle.tv_machine.specs.Lines.{unless, words_of}
 
 -- the managed names
 abbrev pub managed_step : Catalog → (managed : List (List ℕ)) → StepResult Catalog

@@ -1,17 +1,16 @@
 -- The events of searchers.
-use Rattle.std.specs.Prelude.{ℕ, ◌+◌, List, [], ◌∷◌, ◌++◌, map, codes, Option, Some, None}
+use Rattle.std.specs.Prelude.{ℕ, ◌+◌, List, [], ◌∷◌, map, codes, Option, Some, None}
 use Rattle.std.specs.List.{slice_get}
 use Rattle.std.specs.Fmt.{decimal}
 use Rattle.std.specs.Map.{remove_entry}
 use Rattle.std.specs.BTreeMap.{is_at, insert_entry}
 use Rattle.std.specs.Ordering.{nat_cmp}
-use Rattle.hex.specs.Hex.{encode_lower}
-use Rattle.tv_formats.specs.declared.segment.LiveSegment.{LiveSegment}
 use Rattle.tv_formats.specs.declared.segment.SegmentComponent.{SegmentComponent}
 use Rattle.tv_formats.specs.declared.segment.SegmentComponent.TheVariants.{Postings, Positions, FastFields, FieldNorms, Terms, Store, Delete}
-use Rattle.tv_formats.specs.Segments.{num_docs, extension}
+use Rattle.tv_formats.specs.Segments.{extension}
 use Rattle.tv_machine.specs.State.{Catalog, StepResult, Snapshot, Reader, reader_at, searcher_at}
-use Rattle.tv_machine.specs.Lines.{line, given}
+use Rattle.tv_events.specs.AnswerLines.{line, payload_word, segment_word, bytes_word}
+use Rattle.tv_machine.specs.Lines.{given}
 
 -- the searcher that gets this number shows what the reader shows
 abbrev pub searcher_line : ℕ → Reader → List ℕ
@@ -33,15 +32,6 @@ abbrev pub searcher_step : Catalog → ℕ → StepResult Catalog
 searcher_step c number =
     given c (reader_at c number) (codes "unknown-reader")
     (λ reader. (searcher_line c.reading.next_searcher reader, with_searcher c reader.shown))
-
--- a payload: `-` where there is none, else `+` and its bytes in lower-case digits
-abbrev pub payload_word : Option (List ℕ) → List ℕ
-payload_word None = codes "-"
-payload_word (Some text) = codes "+" ++ encode_lower text
-
--- a segment, and how many living documents it has
-abbrev pub segment_word : List ℕ × LiveSegment → List ℕ
-segment_word e = encode_lower e.0 ++ 61 ∷ decimal (num_docs e.1)
 
 -- the commit that the searcher of this number shows
 abbrev pub show_line : ℕ → Snapshot → List ℕ
@@ -73,11 +63,6 @@ body_among (Some bodies) component = slice_get bodies (place_of component)
 -- the body of a component of a segment that a snapshot shows
 abbrev pub body_at : Snapshot → ℕ → SegmentComponent → Option (List ℕ)
 body_at shown ord component = body_among (slice_get shown.bodies ord) component
-
--- bytes in lower-case digits, `-` where there are none
-abbrev pub bytes_word : List ℕ → List ℕ
-bytes_word [] = codes "-"
-bytes_word (b ∷ bytes) = encode_lower (b ∷ bytes)
 
 -- a body that the searcher of this number shows
 abbrev pub bytes_line : ℕ → ℕ → SegmentComponent → List ℕ → List ℕ

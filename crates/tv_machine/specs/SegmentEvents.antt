@@ -5,7 +5,8 @@ use Rattle.hex.specs.Hex.{encode_lower}
 use Rattle.tv_formats.specs.declared.segment.LiveSegment.{LiveSegment}
 use Rattle.tv_machine.specs.State.{Catalog, StepResult, live_at, with_live}
 use Rattle.tv_formats.specs.Names.{at}
-use Rattle.tv_machine.specs.Lines.{line, unless, given}
+use Rattle.tv_events.specs.AnswerLines.{line}
+use Rattle.tv_machine.specs.Lines.{unless, given}
 use Rattle.tv_formats.specs.Segments.{is_named, fresh_segment}
 
 -- the id is that of a live segment or of one of the commit, or a managed name begins with it

@@ -35,11 +35,18 @@ abbrev pub HasSealedFiles : State → Commit → Type 0
 HasSealedFiles s commit = (n : List ℕ) → has (all_required commit.segments) n ≡ true
     → is_sealed (file_at s n) ≡ true
 
--- The files that the kept commits require are sealed, and what holds of unfinished collections from a sound
--- start on (`CollectsSoundly`) does so.
+-- no unfinished collection holds a file that a commit requires
+abbrev pub IsUnheld : State → Commit → Type 0
+IsUnheld s commit = (n : List ℕ) → has (all_required commit.segments) n ≡ true
+    → has (held s.collections) n ≡ false
+
+-- The files that the kept commits require are sealed, and no unfinished collection holds them; and what holds
+-- of unfinished collections from a sound start on (`CollectsSoundly`) does so.
 pub record IsWhole (s : State) : Type 0 where
   -- the files of each kept commit are sealed
   pub each : AllByRecursion (HasSealedFiles s) (kept_commits s.catalog)
+  -- and no unfinished collection holds one of them
+  pub unheld : AllByRecursion (IsUnheld s) (kept_commits s.catalog)
   -- collections took managed names alone that nothing needs, each name once, and what is done has no file
   pub collecting : CollectsSoundly s
 

@@ -1,9 +1,9 @@
 -- The state of the machine.
-use Rattle.std.specs.Prelude.{ℕ, List, [], Option}
+use Rattle.std.specs.Prelude.{ℕ, Bool, List, [], Option}
 use Rattle.std.specs.Map.{lookup}
 use Rattle.std.specs.BTreeMap.{is_at, insert_entry}
 use Rattle.std.specs.Ordering.{nat_cmp}
-use Rattle.tv_machine.specs.declared.reload_policy.ReloadPolicy.{ReloadPolicy}
+use Rattle.tv_events.specs.declared.reload_policy.ReloadPolicy.{ReloadPolicy}
 use Rattle.tv_formats.specs.declared.segment.LiveSegment.{LiveSegment}
 use Rattle.tv_formats.specs.Names.{byte_cmp, at}
 use Rattle.tv_formats.specs.Collections.{Collections}
@@ -23,11 +23,20 @@ pub record Snapshot : Type 0 where
   pub commit : Commit
   pub bodies : List (List (List ℕ))
 
--- a reader: when it is to reload, the number of the next snapshot, and the one that it shows
+-- A reload in steps that isn't finished: the meta lock is held, and the commit is noted whose files are to be
+-- read; or they are read, with these bodies, and the lock is free.
+pub data Reload : Type 0 where
+  Locked : Commit → Reload
+  Read : Commit → List (List (List ℕ)) → Reload
+
+-- a reader: when it is to reload, the number of the next snapshot, the one that it shows, whether it has a
+-- notice of a commit, which `deliver` serves, and its reload in steps, where one isn't finished
 pub record Reader : Type 0 where
   pub policy : ReloadPolicy
   pub next : ℕ
   pub shown : Snapshot
+  pub has_notice : Bool
+  pub reload : Option Reload
 
 -- the readers and the searchers by their numbers, and the numbers that the next ones get
 pub record Readers : Type 0 where

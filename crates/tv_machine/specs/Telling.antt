@@ -6,7 +6,7 @@ use Rattle.tv_formats.specs.Collections.{Collection, done_of, failed_of}
 use Rattle.tv_machine.specs.State.{State}
 use Rattle.tv_machine.specs.CollectionEvents.{collected_line, having_deleted}
 use Rattle.tv_machine.specs.Machine.{Turn, after, report, events_of}
-use Rattle.tv_machine.specs.Script.{Fits}
+use Rattle.tv_events.specs.Script.{Fits}
 
 -- all these names are plain
 abbrev pub are_plain : List (List ℕ) → Bool

@@ -4,7 +4,7 @@ use Rattle.std.specs.List.{flat_map}
 use Rattle.tv_formats.specs.Checksum.{crc32}
 use Rattle.tv_formats.specs.Footer.{IsFramed}
 use Rattle.tv_formats.specs.FooterForm.{FooterNumbers}
-use Rattle.tv_machine.specs.Lines.{line}
+use Rattle.tv_events.specs.AnswerLines.{line}
 use Rattle.tv_formats.specs.Segments.{segment_names}
 use Rattle.tv_formats.specs.Names.{has}
 use Rattle.tv_machine.specs.ReportEvents.{committed_names, damaged_files, validate_step}

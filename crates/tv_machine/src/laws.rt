@@ -4,7 +4,7 @@ ghost use Rattle.std.specs.Prelude.{List, [], None, Option, Some, true, false, �
 ghost use Rattle.std.specs.List.{AllByRecursion};
 ghost use Rattle.std.specs.List.Sorted.{IsStrictlySortedBy};
 ghost use Rattle.serde_json.specs.Read.{read};
-ghost use Rattle.tv_machine.specs.declared.event.Event.{Event};
+ghost use Rattle.tv_events.specs.declared.event.Event.{Event};
 ghost use Rattle.tv_formats.specs.declared.segment.DeleteMeta.{DeleteMeta};
 ghost use Rattle.tv_formats.specs.declared.segment.SegmentComponent.{SegmentComponent};
 ghost use Rattle.tv_formats.specs.declared.segment.SegmentComponent.TheVariants.{Delete};
@@ -21,32 +21,38 @@ ghost use Rattle.tv_machine.specs.Living.{is_busy};
 ghost use Rattle.tv_machine.specs.Machine.{Turn, events_of, step};
 ghost use Rattle.tv_formats.specs.Names.{byte_cmp};
 ghost use Rattle.tv_machine.specs.NewNames.{DrawsInOrder, IsNewDelete};
-ghost use Rattle.tv_machine.specs.Readable.{CanRead};
+ghost use Rattle.tv_machine.specs.Readable.{CanRead, ReadsGood};
 ghost use Rattle.tv_machine.specs.ReopenEvents.{reopened};
 ghost use Rattle.tv_machine.specs.Reopening.{AreAlike, found_in};
-ghost use Rattle.tv_machine.specs.Script.{Fits};
+ghost use Rattle.tv_events.specs.Script.{Fits};
 ghost use Rattle.tv_formats.specs.Segments.{name_of};
-ghost use Rattle.tv_machine.specs.Serving.{IsJustOpened, Serves, ServesAsSealed};
+ghost use Rattle.tv_machine.specs.Serving.{IsJustOpened, Serves, ServesAsSealed, ServesStates};
 ghost use Rattle.tv_machine.specs.SoundStates.{IsSoundState};
 ghost use Rattle.tv_machine.specs.State.{State};
 ghost use Rattle.tv_machine.specs.Telling.{Determined, Tells, TellsStep, are_plain};
 ghost use Rattle.tv_machine.specs.Validating.{Validates};
 
 /// In each run of an index that was just opened, a searcher shows one commit of the run for life,
-/// and a reader never shows an older commit than it showed before; both end where the index is opened
-/// again. In each run of a script from a sound state, each file that a kept commit requires is
-/// sealed, and what is shown of it is the body before its footer.
+/// and a reader never shows an older commit than it showed before, and what it shows next has a
+/// higher number; both end where the index is opened again. The meta lock is free once the reader
+/// ends whose reload holds it, or this reload's files are read. Where the state was sound, what a
+/// searcher shows are the bodies that the files had in the state whose commit it shows. In each run
+/// of a script from a sound state, each file that a kept commit requires is sealed, and what is shown
+/// of it is the body before its footer.
 pub fn searchers_keep_their_commit()
     ensures serves { (s : State) (turns : List Turn) → IsJustOpened s → Serves s turns }
+    ensures states { (s : State) (turns : List Turn) → IsJustOpened s → IsSoundState s
+        → ServesStates s turns }
     ensures as_sealed { (s : State) (turns : List Turn) → IsSoundState s
         → AllByRecursion Fits (events_of turns) → ServesAsSealed s turns }
 {}
 
 /// A directory that reads soundly opens to a state, and to sound states alone. Each event of a script
-/// leaves a sound state sound. The files that the kept commits of such a state require can be read. A
-/// directory that holds such a state opens to what a reopening leaves of it, but that a file which
-/// was left has the bytes that its name reads. States to which one directory opens under one schema
-/// have one catalog, the same managed names and collections, and the same file at each name.
+/// leaves a sound state sound. The files that the kept commits of such a state require can be read,
+/// and so can those of the commit that an event of it reads. A directory that holds such a state
+/// opens to what a reopening leaves of it, but that a file which was left has the bytes that its name
+/// reads. States to which one directory opens under one schema have one catalog, the same managed
+/// names and collections, and the same file at each name.
 pub fn sound_starts_open_to_sound_states()
     ensures exists { (schema : List ℕ) (reads : Reads) → IsSoundImage schema reads
         → (settings : Settings) × (s : State) × OpensTo settings schema reads s }
@@ -55,6 +61,7 @@ pub fn sound_starts_open_to_sound_states()
     ensures steps { (s : State) (event : Event) (outcomes : List Bool) → Fits event
         → IsSoundState s → IsSoundState (step s event outcomes).1 }
     ensures reads { (s : State) → IsSoundState s → CanRead s }
+    ensures loads { (s : State) (event : Event) → IsSoundState s → ReadsGood s event }
     ensures reopens { (settings : Settings) (schema : List ℕ) (reads : Reads) (s : State)
         → IsSoundState s → DirectoryHolds settings schema reads s
         → OpensTo settings schema reads (found_in reads (reopened s)) }

@@ -29,6 +29,7 @@ index_then before after = record {
     };
     settings = after.form.settings ∙ before.form.settings;
     schema = after.form.schema ∙ before.form.schema;
+    executor = after.form.executor ∙ before.form.executor;
   };
   kept = after.kept ∙ before.kept;
 }

@@ -6,3 +6,4 @@ pub mod Bodies
 pub mod Searchers
 pub mod Searching
 pub mod Warming
+pub mod ReadLaws

@@ -5,9 +5,9 @@ use Rattle.tv_base.specs.declared.io.IoKind.TheVariants.{InvalidData}
 use Rattle.tv_formats.specs.declared.segment.SegmentComponent.{SegmentComponent}
 use Rattle.tv_formats.specs.declared.segment.SegmentComponent.TheVariants as components
 use Rattle.tv_formats.specs.Segments.{num_docs}
-use Rattle.tv_framing.specs.Composite.{IsComposite, Part, fields_below}
+use Rattle.tv_framing.specs.Composite.{IsComposite, Part, bodies, fields_below}
 use Rattle.tv_framing.specs.Fields.{FieldSpace}
-use Rattle.tv_framing.specs.PerField.{AreByName}
+use Rattle.tv_framing.specs.PerField.{AreByName, UsesBytes}
 use Rattle.tv_framing.specs.Reports.{indexes_fit, usages}
 use Rattle.tv_framing.specs.Segments.{SegmentSpace}
 use Rattle.tv_framing.specs.Usage.{StoreSpace}
@@ -30,14 +30,17 @@ AreTheFields body parts = (others : List Part) → HasFields body others → oth
 abbrev pub HasNoFields : List ℕ → Type 0
 HasNoFields body = (parts : List Part) → HasFields body parts → ⊥
 
--- what the fields of a file take, under their names, the first of which is that of field 0: each field has a
--- name, and no index is above 65535
+-- What the fields of a file take, under their names, the first of which is that of field 0: each field has a
+-- name, and no index is above 65535. Together they take the bytes of the bodies, however these are shared out
+-- among names; the list of the bodies isn't counted.
 pub record UsesFields (names : List (List ℕ)) (body : List ℕ) (usage : List FieldSpace) : Type 0 where
   pub parts : List Part
   pub has : HasFields body parts
+  pub only : AreTheFields body parts
   pub named : fields_below (length names) parts ≡ true
   pub fits : indexes_fit parts ≡ true
   pub usage_is : AreByName (usages names parts) usage
+  pub total : UsesBytes usage (length (bodies parts))
 
 -- a file isn't one with fields, or one of these has no name, or an index that is too large
 abbrev pub HasNoUsage : (names : List (List ℕ)) → List ℕ → Type 0

@@ -15,9 +15,12 @@ use tv_device::Directory;
 use tv_index::Index;
 use tv_metas::InnerSegmentMeta;
 
-/// The segments of a commit with the bodies of their files, which are read now, in the order of the
-/// segments and of the components.
-pub(crate) fn read_segments<D: Directory>(
+/// The segments of a commit with the bodies of the files that they require, which are read now, in the
+/// order of the segments and of the components.
+///
+/// `OpenReadError` comes for the first of them that isn't there, or doesn't end in a footer of a format
+/// that is read.
+pub fn read_segments<D: Directory>(
     alloc: Global,
     segments: &[InnerSegmentMeta],
     index: &mut Index<D>,

@@ -17,6 +17,7 @@ mod warmer;
 mod warmers;
 mod warming_state;
 
+pub use commit_opening::read_segments;
 pub use generation::SearcherGeneration;
 pub use search::{Collector, Query, Weight};
 pub use searcher::Searcher;

@@ -1,9 +1,5 @@
 -- A script replayed: how far a run has come, and what a whole run is.
-use Rattle.std.proofs.Common.{◌≡◌, ◌≢◌, ◌⊎◌, ℕ, ◌+◌, ◌*◌, ◌^◌, ◌≤◌, ◌<◌, Bool, cond, true, false, List, [], ◌∷◌, ◌++◌, map, length, Option, Some, None, Result, Ok, Err, IfErr, IfOk, refl, sym, ap, subst, ◌∙◌, arith, append_assoc, length-append, inl, inr}
-use Rattle.std.specs.Prelude.{option_map, option_and_then}
-use Rattle.std.specs.Map.{lookup}
-use Rattle.std.specs.BTreeMap.{is_at}
-use Rattle.std.specs.Ordering.{nat_cmp}
+use Rattle.std.proofs.Common.{◌≡◌, ◌≢◌, ◌⊎◌, ℕ, ◌+◌, ◌≤◌, true, List, [], ◌∷◌, ◌++◌, map, length, Option, Some, None, Result, Ok, Err, IfErr, IfOk, refl, sym, ap, subst, ◌∙◌, arith, append_assoc, length-append, inl, inr}
 use Rattle.std.specs.List.{AllByRecursion}
 use Rattle.std.proofs.lemmas.List.{append-nil, map-append, length-map}
 use Rattle.tv_base.specs.Streams.{SourceView}
@@ -14,25 +10,26 @@ use Rattle.tv_base.specs.declared.open_errors.OpenWriteError.{OpenWriteError}
 use Rattle.tv_base.specs.declared.open_errors.OpenWriteError.TheVariants as write
 use Rattle.tv_base.specs.declared.open_errors.OpenReadError.{OpenReadError}
 use Rattle.tv_base.specs.declared.open_errors.OpenReadError.TheVariants as read
-use Rattle.tv_machine.specs.declared.event.Event.{Event}
-use Rattle.tv_machine.specs.declared.event.Event.TheVariants as events
-use Rattle.tv_formats.specs.declared.segment.LiveSegment.{LiveSegment}
-use Rattle.tv_formats.specs.Names.{byte_cmp, meta_name, at}
+use Rattle.tv_events.specs.declared.event.Event.{Event}
+use Rattle.tv_formats.specs.Names.{has, meta_name}
 use Rattle.tv_formats.specs.Files.{Reads, Heard, Rose, RoseBy}
 use Rattle.tv_formats.specs.Commits.{IndexForm}
-use Rattle.tv_formats.specs.Segments.{name_of}
-use Rattle.tv_machine.specs.State.{Catalog, State, Reader, FileState, Left, file_at, live_at, reader_at}
+use Rattle.tv_machine.specs.State.{Catalog, State, FileState, Left, file_at}
 use Rattle.tv_machine.specs.Lines.{opening_of}
 use Rattle.tv_machine.specs.Machine.{Turn, step, answers, report, after, events_of, refused_in, all_refused}
 use Rattle.tv_machine.specs.Index.{FileReads, DirectoryHolds, FoundIndex, OpenedIndex}
 use Rattle.tv_formats.specs.Sound.{IsSoundImage}
 use Rattle.tv_machine.specs.CommitEvents.{is_sealed}
-use Rattle.tv_machine.specs.Readable.{CanRead}
+use Rattle.tv_formats.specs.Collections.{Collections, held}
+use Rattle.tv_formats.specs.Segments.{all_required}
+use Rattle.tv_machine.specs.Living.{kept_commits}
+use Rattle.tv_machine.specs.Readable.{AreGoodFiles, CanRead}
 use Rattle.tv_machine.proofs.SoundOpenings.{sound_index, opens_managed_sorted}
 use Rattle.tv_store.specs.OpeningCauses.{CallFacts, IsSomeSchema}
 use Rattle.tv_machine.proofs.OpenedStates.{opens_sound}
-use Rattle.tv_machine.specs.Script.{line_limit, lines_of, Fits}
-use Rattle.tv_machine.specs.SoundStates.{IsWhole}
+use Rattle.tv_events.specs.Script.{lines_of, Fits}
+use Rattle.tv_machine.specs.SoundStates.{HasSealedFiles, IsUnheld, IsWhole}
+use Rattle.tv_machine.proofs.ReaderMoves.{all_of, all_weaker}
 use Rattle.tv_machine.proofs.SoundStates.{holds_sound}
 use Rattle.tv_machine.proofs.HeldStates.{nothing_held}
 use Rattle.tv_machine.proofs.WholeStates.{after_whole}
@@ -40,32 +37,30 @@ use Rattle.tv_machine.proofs.Serving.{serves, serves_as_sealed, sound_after}
 use Rattle.tv_machine.proofs.Collects.{collects_in}
 use Rattle.tv_machine.proofs.CollectsInSteps.{collects_in_steps_in}
 use Rattle.tv_machine.proofs.Validating.{validates}
-use Rattle.tv_replay.specs.declared.next_event.ScriptError.{ScriptError}
-use Rattle.tv_replay.specs.declared.next_event.ScriptError.TheVariants as failed
-use Rattle.tv_replay.specs.declared.lines.LineError.TheVariants as line
+use Rattle.tv_script.specs.declared.script_events.ScriptError.{ScriptError}
+use Rattle.tv_script.specs.declared.script_events.ScriptError.TheVariants as failed
+use Rattle.tv_script.specs.declared.lines.LineError.TheVariants as line
 use Rattle.tv_replay.specs.declared.replaying.Tally.{Tally}
 use Rattle.tv_catalog.specs.Kept.{KeptState}
-use Rattle.tv_store.specs.Kept.{StoreState, FileHolds, Holds, AtMost}
+use Rattle.tv_store.specs.Kept.{StoreState, FileHolds, Holds}
 use Rattle.tv_device.specs.declared.directory.Directory.{Ghosts}
 use Rattle.tv_store.specs.Opening.{Opens}
 use Rattle.tv_store.specs.Telling.{AreBetween, TellsLine, TellsLines}
-use Rattle.tv_replay.specs.ScriptLines.{pending, TakesNextEvent, IsNoEvent, IsTooLong}
-use Rattle.tv_catalog.specs.ReaderNumbers.{FewNumbers}
+use Rattle.tv_script.specs.ScriptLines.{pending, TakesNextEvent, IsNoEvent, IsTooLong}
 use Rattle.tv_index.specs.Opening.{NotesMade}
 use Rattle.tv_index.specs.Standing.{MetaCause, OfRead}
 use Rattle.tv_formats.specs.Meaning.{Means, MeansNothing, MeansOther}
 use Rattle.tv_formats.proofs.MeansOne.{means_no_other, means_something}
-use Rattle.tv_catalog.specs.Effects.{TakesMetaLock, after_each, length_after, numbers_after, written_by}
+use Rattle.tv_catalog.specs.Effects.{TakesMetaLock}
 use Rattle.tv_store.specs.ReadCauses.{ReadFault, LoadingCause, ReadFacts}
 use Rattle.tv_managed.specs.Collecting.{meta_lock_name}
-use Rattle.tv_replay.specs.ScriptCauses.{IsRefused, ScriptCause}
+use Rattle.tv_script.specs.ScriptCauses.{IsRefused, ScriptCause}
 use Rattle.tv_store.specs.StoreCauses.{WriteFault, IsRefusal}
 use Rattle.tv_replay.specs.Replays.{Replays, ReplayCause, StopsAtLine, LineRefusal, IsTooMany, TakesNoLock, line_refusal, long_refusal}
 use Rattle.tv_store.specs.Applying.{Stepped}
-use Rattle.tv_catalog.specs.Exhausted.{IsExhausted, PassesEnd, SomePassesEnd}
 use Rattle.tv_replay.specs.AppliedEvents.{Applies, Runs, RunFaults, Causes, RunCause, run_causes, FailsRun, EndCause, IsErrorOf}
 use Rattle.tv_replay.proofs.AppliedWhole.{EventSurvives, ReplayLeaves, none_applied, one_more_whole}
-use Rattle.tv_replay.proofs.LineLemmas.{pending_some}
+use Rattle.tv_script.proofs.LineLemmas.{pending_some}
 use Rattle.tv_replay.proofs.Progress.{after-last, answers-last, events-last, readable-last, refused-last, AreLines-length, ReadSoFar, HasRead, nothing_read, one_more_read, all_read}
 
 -- ---- telling
@@ -109,59 +104,6 @@ tells_by {from = from} {mid = mid} to le ts = record { pieces = ts.pieces; heard
 pub fits-last : (events : List Event) (e : Event) → AllByRecursion Fits events → Fits e → AllByRecursion Fits (events ++ e ∷ [])
 fits-last [] e all fits = (fits, tt)
 fits-last (first ∷ events) e all fits = (all.0, fits-last events e all.1 fits)
-
--- ---- how long files are
-
-pub one_more_line : (count : ℕ) → count * line_limit + line_limit ≡ (count + 1) * line_limit
-one_more_line count = omega arith
-
-either_entry : {X : Type 0} (P : X → Type 0) (b : Bool) (y x : X) (rest : Option X) → P y → (rest ≡ Some x → P x) → cond b (Some y) rest ≡ Some x → P x
-either_entry P true y x rest here there e = let same : y ≡ x = cc in subst P same here
-either_entry P false y x rest here there e = there e
-
--- what is true of each entry is true of what stands at a key
-all_there : {K X : Type 0} (P : X → Type 0) (f : K → Bool) (entries : List (K × X)) (x : X) → AllByRecursion (λ e. P e.1) entries → lookup f entries ≡ Some x → P x
-all_there P f [] x all e = absurd cc
-all_there P f (entry ∷ entries) x all e = either_entry P (f entry.0) entry.1 x (lookup f entries) all.0 (all_there P f entries x all.1) e
-
-pub mapped : {A B : Type 0} (f : A → B) (o : Option A) (b : B) → option_map f o ≡ Some b → (x : A) × (o ≡ Some x) × (f x ≡ b)
-mapped f None b e = absurd cc
-mapped f (Some x) b e = (x, refl, cc)
-
-then_there : {A B : Type 0} (f : A → Option B) (o : Option A) (b : B) → option_and_then f o ≡ Some b → (x : A) × (f x ≡ Some b)
-then_there f None b e = absurd cc
-then_there f (Some x) b e = (x, e)
-
-few_each : {X : Type 0} (number : X → ℕ) (found : Option X) (bound : ℕ) → bound + 1 < 2 ^ 64 → ((x : X) → found ≡ Some x → number x ≤ bound) → SomePassesEnd (after_each number found) → ⊥
-few_each number None bound few small h = h
-few_each number (Some x) bound few small (inl much) = let le = small x refl in omega (arith, le, few, much)
-few_each number (Some x) bound few small (inr none) = none
-
-few_numbers : (kept : KeptState) (event : Event) (bound : ℕ) → bound + 1 < 2 ^ 64 → FewNumbers bound kept.catalog.reading kept.collections → SomePassesEnd (numbers_after kept event) → ⊥
-few_numbers kept (events.Reader policy) bound few numbers (inl much) = omega (arith, numbers.next_reader, few, much)
-few_numbers kept (events.Reader policy) bound few numbers (inr none) = none
-few_numbers kept (events.Searcher number) bound few numbers spent = few_each (λ (r : Reader). kept.catalog.reading.next_searcher) (reader_at kept.catalog number) bound few (λ r there. numbers.next_searcher) spent
-few_numbers kept (events.Reload number) bound few numbers spent =
-    few_each (λ (r : Reader). r.next) (reader_at kept.catalog number) bound few (λ r there. all_there (λ (r : Reader). r.next ≤ bound) (is_at (nat_cmp number)) kept.catalog.reading.readers r numbers.next_snapshots there) spent
-few_numbers kept events.Gc bound few numbers (inl much) = omega (arith, numbers.next_collection, few, much)
-few_numbers kept events.Gc bound few numbers (inr none) = none
-few_numbers kept events.GcBegin bound few numbers (inl much) = omega (arith, numbers.next_collection, few, much)
-few_numbers kept events.GcBegin bound few numbers (inr none) = none
-few_numbers kept other bound few numbers spent = absurd spent
-
-short_files : (kept : KeptState) (event : Event) (bound more : ℕ) → bound + more < 2 ^ 64 → written_by event ≤ more → AtMost bound kept → PassesEnd (length_after kept event) → ⊥
-short_files kept (events.Write id component bytes) bound more few small all (n, is, much) =
-    let segment = then_there (λ (segment : LiveSegment). option_map (λ (body : List ℕ). length (body ++ bytes)) (at kept.open_files (name_of id segment.deletes component))) (live_at kept.catalog id) n is in
-    let found = mapped (λ (body : List ℕ). length (body ++ bytes)) (at kept.open_files (name_of id segment.0.deletes component)) n segment.1 in
-    let short : length found.0 ≤ bound = all_there (λ (body : List ℕ). length body ≤ bound) (is_at (byte_cmp (name_of id segment.0.deletes component))) kept.open_files found.0 all found.1 in
-    let same : length (found.0 ++ bytes) ≡ n = found.2 in
-    omega (arith, short, same, length-append found.0 bytes, much)
-short_files kept other bound more few small all (n, is, much) = absurd cc
-
--- files stay far shorter than 64 bits of bytes, and numbers far below
-pub never_spent : (kept : KeptState) (event : Event) (count : ℕ) → count < 2 ^ 32 → written_by event ≤ line_limit → AtMost (count * line_limit) kept → FewNumbers (count * line_limit) kept.catalog.reading kept.collections → IsExhausted kept event → ⊥
-never_spent kept event count few small all numbers (inl spent) = few_numbers kept event (count * line_limit) (omega arith) numbers spent
-never_spent kept event count few small all numbers (inr spent) = short_files kept event (count * line_limit) line_limit (omega arith) small all spent
 
 -- ---- how far a run has come
 
@@ -421,7 +363,10 @@ directory_holds form reads kept s is h = record {
 -- what can be read is sealed, and where an index was just opened no collection takes any of it
 pub reads_whole : {schema : List ℕ} {reads : Reads} (index : OpenedIndex schema reads) → CanRead index.state → IsWhole index.state
 reads_whole {reads = reads} index h = record {
-  each = (λ n required. ap is_sealed (h.0.each n required).1, tt);
+  each =
+      all_weaker (λ commit. AreGoodFiles index.state (all_required commit.segments)) (HasSealedFiles index.state) (kept_commits index.state.catalog)
+      (λ commit good n required. ap is_sealed (good.each n required).1) h;
+  unheld = all_of (IsUnheld index.state) (kept_commits index.state.catalog) (λ commit n required. ap (λ (c : Collections). has (held c) n) index.opens.collections);
   collecting = nothing_held index.state index.opens.collections (opens_managed_sorted index.form.settings index.form.schema reads index.state index.opens);
 }
 

@@ -8,7 +8,7 @@ use Rattle.tv_base.specs.declared.error.TantivyError.{TantivyError}
 use Rattle.tv_machine.specs.Index.{OpenedIndex}
 use Rattle.tv_machine.specs.State.{State}
 use Rattle.tv_machine.specs.Machine.{Turn, after, step}
-use Rattle.tv_machine.specs.declared.event.Event.{Event}
+use Rattle.tv_events.specs.declared.event.Event.{Event}
 use Rattle.tv_crashes.specs.Runs.{HearsNoLine, ReplaySurvives, RunsSafely, RunsWhole, Seen}
 use Rattle.tv_crashes.specs.Stored.{IsSafe, stored_of}
 use Rattle.tv_crashes.proofs.RunsTold.{and_runs, and_runs_whole, no_turn}

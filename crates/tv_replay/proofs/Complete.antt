@@ -1,6 +1,9 @@
 -- A replay that is ready stops only for want of memory, or where a device refused a call.
 use Rattle.std.proofs.Common.{◌≡◌, ◌≢◌, ◌⊎◌, inl, inr, ℕ, ◌+◌, ◌≤◌, Bool, cond, true, false, true≢false, List, [], ◌∷◌, ◌++◌, length, length-append, Option, Some, None, refl, sym, ap, subst, ◌∙◌, arith}
-use Rattle.std.specs.Prelude.{string_bytes}
+use Rattle.std.specs.Prelude.{IfSome, string_bytes}
+use Rattle.std.specs.BTreeMap.{is_at}
+use Rattle.std.specs.Ordering.{nat_cmp}
+use Rattle.std.proofs.lemmas.Option.{same_Some}
 use Rattle.std.specs.List.{onto_first, AllByRecursion}
 use Rattle.tv_base.specs.declared.open_errors.OpenReadError.{OpenReadError}
 use Rattle.tv_base.specs.declared.open_errors.OpenReadError.TheVariants as read
@@ -9,13 +12,16 @@ use Rattle.tv_base.specs.declared.open_errors.OpenWriteError.TheVariants as writ
 use Rattle.tv_base.specs.declared.error.TantivyError.{TantivyError}
 use Rattle.tv_base.specs.declared.open_errors.LockError.TheVariants as lock
 use Rattle.tv_base.specs.declared.error.TantivyError.TheVariants as errors
-use Rattle.tv_machine.specs.declared.event.Event.{Event}
-use Rattle.tv_machine.specs.declared.event.Event.TheVariants as events
+use Rattle.tv_events.specs.declared.event.Event.{Event}
+use Rattle.tv_events.specs.declared.event.Event.TheVariants as events
 use Rattle.tv_formats.specs.Footer.{IsGood, HasBody}
 use Rattle.tv_device.specs.Locks.{Locks}
 use Rattle.tv_machine.specs.State.{State, FileState, Reader, SealedFile, reader_at}
 use Rattle.tv_machine.specs.Machine.{Turn, after, events_of}
-use Rattle.tv_machine.specs.Readable.{read_by}
+use Rattle.tv_machine.specs.Lines.{is_refused}
+use Rattle.tv_machine.specs.Living.{is_busy, kept_commits, unread_by}
+use Rattle.tv_machine.specs.Readable.{AreGoodFiles, read_by}
+use Rattle.tv_machine.specs.ReaderEvents.{reload_refusals}
 use Rattle.tv_formats.specs.Names.{has, meta_name}
 use Rattle.tv_formats.specs.Commits.{required_by, Commit, Settings}
 use Rattle.tv_formats.specs.Segments.{all_required}
@@ -25,6 +31,7 @@ use Rattle.tv_formats.proofs.MeansOne.{means_no_other, means_one, means_somethin
 use Rattle.tv_machine.proofs.OpenedStates.{opens_sound}
 use Rattle.tv_formats.proofs.Required.{has_files_from}
 use Rattle.tv_machine.proofs.SoundOpenings.{sound_index}
+use Rattle.tv_machine.proofs.ReaderMoves.{all_unread}
 use Rattle.tv_machine.proofs.SoundStates.{sound_reads}
 use Rattle.tv_formats.specs.Files.{Reads}
 use Rattle.tv_base.specs.declared.error.DataCorruption.{DataCorruption}
@@ -32,9 +39,9 @@ use Rattle.tv_formats.specs.Meaning.{Means, MeansOther, MeansNothing}
 use Rattle.tv_formats.specs.Schemas.{IsSchema}
 use Rattle.tv_formats.specs.Sound.{FindsCommit, HasFiles, IsSoundImage, IsSoundMeta}
 use Rattle.tv_machine.specs.Index.{FoundIndex, found_commits}
-use Rattle.tv_machine.specs.Script.{line_limit, lines_of, Fits, IsLine, AreLines}
+use Rattle.tv_events.specs.Script.{line_limit, lines_of, Fits, IsLine, AreLines}
 use Rattle.tv_machine.proofs.Serving.{sound_after, front_fits}
-use Rattle.tv_replay.specs.ScriptLines.{IsNoEvent, IsTooLong}
+use Rattle.tv_script.specs.ScriptLines.{IsNoEvent, IsTooLong}
 use Rattle.tv_index.specs.Opening.{OfBytes, OpenCause}
 use Rattle.tv_store.specs.StoreCauses.{WriteFault, writer_lock_name}
 use Rattle.tv_store.specs.OpeningCauses.{CallFacts, IndexMissing, IndexRefused, IsFirstBad, OpeningCause}
@@ -45,7 +52,7 @@ use Rattle.tv_store.specs.Applying.{MeetsBadAt}
 use Rattle.tv_replay.specs.Replays.{ReplayCall, ReplayCause, told_facts, RefusesOpening, StopsFor, StopsReplay, StopsRunning, StopsAtLine, LineRefusal}
 use Rattle.tv_replay.specs.Completeness.{IsScript, IsReady}
 use Rattle.tv_replay.proofs.Progress.{AreLines-length}
-use Rattle.tv_replay.proofs.AppliedEvents.{mapped}
+use Rattle.tv_replay.proofs.Spending.{all_there, then_there}
 
 -- the event whose line stands after some others
 event_there : (texts : List (List ℕ)) (text : List ℕ) (more : List (List ℕ)) (events : List Event) → AreLines (texts ++ text ∷ more) events → (event : Event) × IsLine text event
@@ -171,19 +178,34 @@ lines_fit (text ∷ texts) (event ∷ events) h = (h.0.fits, lines_fit texts eve
 lines_fit [] (event ∷ events) h = absurd h
 lines_fit (text ∷ texts) [] h = absurd h
 
--- an event that reads a commit's files reads those of the current one
-reads_current : (s : State) (event : Event) (commit : Commit) → read_by s event ≡ Some commit → s.catalog.commit ≡ commit
-reads_current s (events.Reader policy) commit e = cc
-reads_current s (events.Reload number) commit e = let found = mapped (λ (r : Reader). s.catalog.commit) (reader_at s.catalog number) commit e in found.2
-reads_current s other commit e = absurd cc
+unless_refused : (b : Bool) (current commit : Commit) → cond b None (Some current) ≡ Some commit → current ≡ commit
+unless_refused true current commit e = absurd cc
+unless_refused false current commit e = same_Some current commit e
+
+if_some : (P : Commit → Type 0) (unread : Option Commit) (commit : Commit) → unread ≡ Some commit → IfSome unread P → P commit
+if_some P None commit e h = absurd cc
+if_some P (Some noted) commit e h = subst P (same_Some noted commit e) h
+
+-- an event that reads a commit's files reads those of one that is kept
+reads_kept : (P : Commit → Type 0) (s : State) (event : Event) (commit : Commit) → read_by s event ≡ Some commit → AllByRecursion P (kept_commits s.catalog) → P commit
+reads_kept P s (events.Reader policy) commit e all = subst P (unless_refused (is_busy s.catalog) s.catalog.commit commit e) all.0
+reads_kept P s (events.Reload number) commit e all =
+    let found = then_there (λ (r : Reader). cond (is_refused (reload_refusals s.catalog r)) None (Some s.catalog.commit)) (reader_at s.catalog number) commit e in
+    subst P (unless_refused (is_refused (reload_refusals s.catalog found.0)) s.catalog.commit commit found.2) all.0
+reads_kept P s (events.ReloadOpen number) commit e all =
+    let found = then_there (λ (r : Reader). unread_by r.reload) (reader_at s.catalog number) commit e in
+    if_some P (unread_by found.0.reload) commit found.2
+    (all_there (λ (r : Reader). IfSome (unread_by r.reload) P) (is_at (nat_cmp number)) s.catalog.reading.readers found.0 (all_unread P s.catalog.reading.readers all.1) found.1)
+reads_kept P s events.Deliver commit e all = subst P (unless_refused _ s.catalog.commit commit e) all.0
+reads_kept P s other commit e all = absurd cc
 
 -- in a sound state no file is met that can't be read
 no_bad_file : (s : State) (event : Event) (error : OpenReadError) → IsSoundState s → MeetsBadAt s event error → ⊥
 no_bad_file s event error sound (commit, reads, met) =
-    let required : has (all_required s.catalog.commit.segments) met.path ≡ true =
-    subst (λ (c : Commit). has (all_required c.segments) met.path ≡ true) (sym (reads_current s event commit reads))
-    (subst (λ (names : List (List ℕ)). has names met.path ≡ true) (sym met.split) (has_middle met.front met.path met.rest)) in
-    let good = (sound_reads s sound).0.each met.path required in
+    let required : has (all_required commit.segments) met.path ≡ true =
+    subst (λ (names : List (List ℕ)). has names met.path ≡ true) (sym met.split) (has_middle met.front met.path met.rest) in
+    let files = reads_kept (λ (c : Commit). AreGoodFiles s (all_required c.segments)) s event commit reads (sound_reads s sound) in
+    let good = files.each met.path required in
     let same : met.bytes ≡ good.0 = sealed_text met.sealed good.1 in
     met.no_body good.2.body (subst (λ (bytes : List ℕ). HasBody bytes good.2.body) (sym same) good.2.has_body)
 

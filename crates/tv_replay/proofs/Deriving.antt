@@ -12,7 +12,8 @@ use Rattle.tv_replay.specs.ErrorLines.{error_line}
 use Rattle.tv_replay.specs.Headline.{EndsSoundly, Headline, HearsAtMostOne, RunsSoundly, StartsSoundly}
 use Rattle.tv_replay.specs.PlaceView.{KeepsFolders, PlaceTold}
 use Rattle.tv_replay.specs.Replays.{Replays, ReplayFrame}
-use Rattle.tv_replay.specs.Runs.{AskedReplay, Scene, EndsReplay, EndsRun, RefusesReplay, Stops, Succeeds, WantsMemory, memory_line}
+use Rattle.tv_replay.specs.Runs.{AskedReplay, Scene, EndsReplay, RefusesReplay, Stops, Succeeds, WantsMemory, memory_line}
+use Rattle.tv_replay.specs.WordRuns.{EndsRun}
 use Rattle.tv_replay.specs.Surviving.{SurvivesReplay}
 use Rattle.tv_store.specs.Telling.{TellsLine}
 use Rattle.tv_replay.proofs.Surviving.{fewer_image, keeps_same, survives_unbegun}

@@ -1,15 +1,14 @@
-pub mod Numbers
-pub mod GrammarLaws
-pub mod Feeds
-pub mod LineLemmas
 pub mod Progress
 pub mod Benches
 pub mod AppliedWhole
+pub mod Spending
 pub mod AppliedEvents
 pub mod Surviving
 pub mod Stopping
 pub mod Complete
 pub mod Runs
+pub mod SpaceCauses
+pub mod SpaceRuns
 pub mod ReplayFrames
 pub mod ReadAhead
 pub mod GeneratedLines
@@ -18,7 +17,6 @@ pub mod StandingIndexes
 pub mod FirstRuns
 pub mod CommandWords
 pub mod CommandRuns
-pub mod LineLaws
 pub mod Deriving
 pub mod LastCollections
 pub mod KeptLocks

@@ -1,14 +1,14 @@
 -- How far the reading of a script has come, and one more event at the end of a run.
 use Rattle.std.proofs.Common.{◌≡◌, ℕ, suc, ◌+◌, List, [], ◌∷◌, ◌++◌, length, Option, Some, refl, sym, ap, subst, ◌∙◌, arith, append_assoc}
 use Rattle.std.proofs.lemmas.List.{append-nil, map-append}
-use Rattle.tv_machine.specs.declared.event.Event.{Event}
+use Rattle.tv_events.specs.declared.event.Event.{Event}
 use Rattle.tv_machine.specs.State.{State}
 use Rattle.tv_machine.specs.Machine.{Turn, step, answers, after, events_of, refused_in, all_refused}
 use Rattle.tv_machine.specs.Readable.{ReadsGood, AllReadGood}
-use Rattle.tv_machine.specs.Script.{lines_of, IsLine, AreLines}
-use Rattle.tv_replay.specs.ScriptLines.{pending, TakesEvent, TakesNextEvent}
+use Rattle.tv_events.specs.Script.{lines_of, IsLine, AreLines}
+use Rattle.tv_script.specs.ScriptLines.{pending, TakesEvent, TakesNextEvent}
 use Rattle.tv_replay.specs.Replays.{BeginsWith}
-use Rattle.tv_replay.proofs.LineLemmas.{pending_is}
+use Rattle.tv_script.proofs.LineLemmas.{pending_is}
 
 -- ---- one more event at the end
 

@@ -3,10 +3,11 @@ use Rattle.std.proofs.Common.{ℕ, List, Option}
 use Rattle.tv_base.specs.declared.error.TantivyError.{TantivyError}
 use Rattle.tv_base.specs.declared.error.TantivyError.TheVariants as errors
 use Rattle.tv_replay.specs.AppliedEvents.{EndCause}
-use Rattle.tv_replay.specs.ScriptCauses.{ScriptCause, UnlessLineFault, UnlessIoError}
-use Rattle.tv_replay.specs.declared.lines.LineError.TheVariants as line
-use Rattle.tv_replay.specs.declared.next_event.ScriptError.{ScriptError}
-use Rattle.tv_replay.specs.declared.next_event.ScriptError.TheVariants as failed
+use Rattle.tv_replay.specs.ScriptEnds.{UnlessIoError}
+use Rattle.tv_script.specs.ScriptCauses.{ScriptCause, UnlessLineFault}
+use Rattle.tv_script.specs.declared.lines.LineError.TheVariants as line
+use Rattle.tv_script.specs.declared.script_events.ScriptError.{ScriptError}
+use Rattle.tv_script.specs.declared.script_events.ScriptError.TheVariants as failed
 
 -- where no read was refused, there is no fault
 pub event_known : (known refused quiet : Type 0) (script : Option (List ℕ)) (error : ScriptError) → ScriptCause script refused quiet error → UnlessLineFault known error → (refused → ⊥) → known

@@ -38,7 +38,8 @@ use Rattle.tv_replay.specs.Completeness.{IsReady}
 use Rattle.tv_replay.proofs.Complete.{only_memory}
 use Rattle.tv_replay.proofs.Stopping.{none_behind, none_met}
 use Rattle.tv_replay.specs.Commands.{replay_words}
-use Rattle.tv_replay.specs.Runs.{SaysLine, OnlySays, SaysError, PlaceRefuses, AskedReplay, Scene, KeepsScript, RefusesReplay, Reports, ReportsError, Stops, EndsReplay, IsUndisturbedRun, schema_line, folder_line}
+use Rattle.tv_replay.specs.Runs.{SaysLine, OnlySays, SaysError, PlaceRefuses, AskedReplay, Scene, KeepsScript, RefusesReplay, Reports, ReportsError, Stops, EndsReplay, schema_line, folder_line}
+use Rattle.tv_replay.specs.WordRuns.{IsUndisturbedRun}
 
 -- a digit is no line feed
 glyph_no_feed : (d : ℕ) → not (digit_glyph false d == 10) ≡ true
@@ -57,7 +58,7 @@ digits_no_feed (suc k) n acc h =
     let one : has_no_feed (digit_glyph false (n % 10) ∷ acc) ≡ true = rw (glyph_no_feed (n % 10)) h in
     whichever (n / 10 == 0) (digit_glyph false (n % 10) ∷ acc) (digits_onto k 10 false (n / 10) (digit_glyph false (n % 10) ∷ acc)) one (digits_no_feed k (n / 10) (digit_glyph false (n % 10) ∷ acc) one)
 
-decimal_no_feed : (n : ℕ) → has_no_feed (decimal n) ≡ true
+pub decimal_no_feed : (n : ℕ) → has_no_feed (decimal n) ≡ true
 unfolding digits
 decimal_no_feed n = digits_no_feed 64 n [] refl
 
@@ -71,15 +72,15 @@ line_no_feed : (script : Option (List ℕ)) (text : List ℕ) → LineRefusal sc
 line_no_feed script text (number, inl h) = rw h.0 (numbered_no_feed number (codes " is not of the event grammar") refl)
 line_no_feed script text (number, inr h) = rw h.0 (numbered_no_feed number (codes " is longer than 1048576 bytes") refl)
 
-fault_no_feed : (kind : IoKind) (path : List ℕ) → has_no_feed path ≡ true → has_no_feed (fault_line kind path) ≡ true
+pub fault_no_feed : (kind : IoKind) (path : List ℕ) → has_no_feed path ≡ true → has_no_feed (fault_line kind path) ≡ true
 fault_no_feed Device path h = refl
 fault_no_feed UnexpectedEof path h = no_feed_append (codes "error footer ") path refl h
 fault_no_feed InvalidData path h = no_feed_append (codes "error footer ") path refl h
 
-device_no_feed : (kind : IoKind) (path : List ℕ) → kind ≡ Device → has_no_feed (fault_line kind path) ≡ true
+pub device_no_feed : (kind : IoKind) (path : List ℕ) → kind ≡ Device → has_no_feed (fault_line kind path) ≡ true
 device_no_feed kind path is = rw is refl
 
-format_no_feed : (why : Incompatibility) → has_no_feed (format_line why) ≡ true
+pub format_no_feed : (why : Incompatibility) → has_no_feed (format_line why) ≡ true
 format_no_feed (IndexMismatch library index) = no_feed_append (codes "error format ") (decimal index.index_format_version) refl (decimal_no_feed index.index_format_version)
 format_no_feed (CompressionMismatch library index) = refl
 
@@ -90,7 +91,7 @@ read_no_feed refused quiet bad absent (read.FileDoesNotExist path) h = no_feed_a
 read_no_feed refused quiet bad absent (read.IncompatibleIndex why) h = format_no_feed why
 read_no_feed refused quiet bad absent other h = absurd h
 
-io_no_feed : (kind : IoKind) → has_no_feed (io_line kind) ≡ true
+pub io_no_feed : (kind : IoKind) → has_no_feed (io_line kind) ≡ true
 io_no_feed Device = refl
 io_no_feed other = refl
 
@@ -102,7 +103,7 @@ write_no_feed : (refused : Type 0) (error : OpenWriteError) → WriteFault refus
 write_no_feed refused (write.IoError fault path) h = io_no_feed fault.kind
 write_no_feed refused other h = absurd h
 
-corrupt_no_feed : (path : Option (String Global)) (name : List ℕ) → option_map string_bytes path ≡ Some name → has_no_feed name ≡ true → has_no_feed (corrupt_line path) ≡ true
+pub corrupt_no_feed : (path : Option (String Global)) (name : List ℕ) → option_map string_bytes path ≡ Some name → has_no_feed name ≡ true → has_no_feed (corrupt_line path) ≡ true
 corrupt_no_feed None name is h = refl
 corrupt_no_feed (Some path) name is h = let same : string_bytes path ≡ name = cc in no_feed_append (codes "error corrupt ") (string_bytes path) refl (rw same h)
 
@@ -147,7 +148,7 @@ folder_line_is directory.Memory other = absurd (other refl)
 folder_line_is error other = refl
 
 -- a line was said, or the place refused it
-says_line : {A O : Type 0} {told : PlaceTold} {old new : PlaceView O} {line : List ℕ} (r : Result A IoFault) → Says told old new line r → SayFaults old new r → SaysLine told old new line
+pub says_line : {A O : Type 0} {told : PlaceTold} {old new : PlaceView O} {line : List ℕ} (r : Result A IoFault) → Says told old new line r → SayFaults old new r → SaysLine told old new line
 says_line (Ok x) says faults = inl (faults.quiet, says.ok)
 says_line (Err e) says faults = inr (faults.cause.1, says.err)
 
@@ -187,7 +188,7 @@ says_since {told = told} {old = old} {mid = mid} {new = new} {line = line} kept 
 }
 
 -- and no call was refused since
-says_quietly : {O : Type 0} {told : PlaceTold} {old mid new : PlaceView O} {line : List ℕ} → PlaceKept told old mid → mid.faults ≡ old.faults → OnlySays told mid new line → OnlySays told old new line
+pub says_quietly : {O : Type 0} {told : PlaceTold} {old mid new : PlaceView O} {line : List ℕ} → PlaceKept told old mid → mid.faults ≡ old.faults → OnlySays told mid new line → OnlySays told old new line
 says_quietly {told = told} {old = old} {mid = mid} {new = new} {line = line} kept quiet only = record {
   says = subst (λ (n : ℕ). SaysLine told (record old { faults = n }) new line) quiet (says_since kept only).says;
   counted = subst (λ (n : ℕ). (before : ℕ) → Rose before n → Rose before new.faults) quiet only.counted;
@@ -200,7 +201,7 @@ why_since {count = count} same (inl rose) = inl (subst (λ (n : ℕ). Rose n cou
 why_since same (inr (quiet, m)) = inr (quiet ∙ same, m)
 
 -- the place refused a call, and then a line was said
-refused_by : {O : Type 0} {told : PlaceTold} {old mid new : PlaceView O} {line : List ℕ} → PlaceKept told old mid → Rose old.faults mid.faults → OnlySays told mid new line → PlaceRefuses told old new line
+pub refused_by : {O : Type 0} {told : PlaceTold} {old mid new : PlaceView O} {line : List ℕ} → PlaceKept told old mid → Rose old.faults mid.faults → OnlySays told mid new line → PlaceRefuses told old new line
 refused_by {told = told} {old = old} {mid = mid} {new = new} {line = line} kept rose only = record {
   refused = only.counted old.faults rose;
   says = λ tells. subst (λ (said : List ℕ). (new.said ≡ said ++ line ++ 10 ∷ []) ⊎ SaysPart said new.said line) kept.said (either only.says tells);
@@ -222,7 +223,7 @@ pub wants : {O : Type 0} {told : PlaceTold} {old mid new : PlaceView O} {line : 
 wants memory kept (inl rose) only = inr (refused_by kept rose only)
 wants memory kept (inr (quiet, _)) only = inl (says_quietly kept quiet only)
 
-not_done : (n : ℕ) → (n ≡ 1) ⊎ (n ≡ 3) → n ≡ 0 → ⊥
+pub not_done : (n : ℕ) → (n ≡ 1) ⊎ (n ≡ 3) → n ≡ 0 → ⊥
 not_done n (inl one) none = omega arith
 not_done n (inr three) none = omega arith
 

@@ -12,7 +12,7 @@ use Rattle.tv_formats.specs.Commits.{IndexForm}
 use Rattle.tv_formats.specs.Meaning.{Means, MeansNothing, MeansOther}
 use Rattle.tv_machine.specs.State.{State}
 use Rattle.tv_machine.specs.Lines.{opening_of}
-use Rattle.tv_machine.specs.declared.event.Event.{Event}
+use Rattle.tv_events.specs.declared.event.Event.{Event}
 use Rattle.tv_machine.specs.Machine.{Turn, step, answers, report, after, events_of, all_refused}
 use Rattle.tv_machine.specs.Readable.{AllReadGood}
 use Rattle.tv_machine.specs.SoundStates.{IsWhole}
@@ -27,19 +27,20 @@ use Rattle.tv_store.specs.Telling.{TellsLine, TellsNoLine}
 use Rattle.tv_store.specs.Applying.{LeavesCommit, LeavesOldOrNew, MeetsBadAt}
 use Rattle.tv_index.specs.Standing.{MetaCause, OfRead}
 use Rattle.tv_catalog.specs.Effects.{TakesMetaLock}
-use Rattle.tv_store.specs.ReadCauses.{LoadingCause, IsReadError, ReadFacts}
+use Rattle.tv_store.specs.ReadCauses.{IsReadError, LoadingCause, ReadFacts}
 use Rattle.tv_index.specs.Opening.{OpenCause}
 use Rattle.tv_store.specs.OpeningCauses.{CallFacts, IndexMissing, IndexRefused, OpeningCause}
 use Rattle.tv_store.specs.StoreCauses.{IsBusy, IsRefusal, RefusedBehind, writer_lock_name}
-use Rattle.tv_replay.specs.declared.next_event.ScriptError.{ScriptError}
-use Rattle.tv_replay.specs.declared.next_event.ScriptError.TheVariants as failed
-use Rattle.tv_replay.specs.declared.lines.LineError.TheVariants as line
-use Rattle.tv_replay.specs.ScriptCauses.{IsRefused, ScriptCause}
+use Rattle.tv_script.specs.declared.script_events.ScriptError.{ScriptError}
+use Rattle.tv_script.specs.declared.script_events.ScriptError.TheVariants as failed
+use Rattle.tv_script.specs.declared.lines.LineError.TheVariants as line
+use Rattle.tv_script.specs.ScriptCauses.{IsRefused, ScriptCause}
 use Rattle.tv_base.specs.Streams.{SourceView}
-use Rattle.tv_replay.specs.ScriptLines.{TakesNextEvent, IsNoEvent, IsTooLong, IsAhead, ReadsAhead, pending}
-use Rattle.tv_replay.proofs.LineLemmas.{pending_some}
+use Rattle.tv_script.specs.ScriptLines.{TakesNextEvent, IsNoEvent, IsTooLong, IsAhead, ReadsAhead, pending}
+use Rattle.tv_script.proofs.LineLemmas.{pending_some}
 use Rattle.tv_replay.specs.AppliedEvents.{StopsRun, EndCause, IsErrorOf}
 use Rattle.tv_replay.specs.Replays.{BeginsWith, RunFrom, StopsFor, HearsTurns, StopsAt, TakesNoLock, IsNext, IsRefusedNext, IsLockBusy, ReplayCause, WasLockedOut, told_facts, line_refusal, long_refusal}
+use Rattle.tv_replay.proofs.KeptLocks.{names_differ}
 use Rattle.tv_replay.proofs.Progress.{after-last, events-last, HasRead, begins_next}
 use Rattle.tv_replay.proofs.AppliedEvents.{Progress, read_fault, tells_first}
 
@@ -186,8 +187,8 @@ module _ (script : Option (List ℕ)) (s : State) (turns : List Turn) (held free
   -- in an event
   pub event_stops : (facts : ReadFacts) (given tells : Type 0) (schema : List ℕ) (stood : Option (List ℕ)) (event : Event) (error : TantivyError) → IsNext script turns event
       → LoadingCause facts (λ e. given × MetaCause tells (Some schema) stood facts.refused facts.quiet e) error → (facts.busy → TakesMetaLock (after s turns).catalog event × held) → (facts.spent → ⊥) → (OfRead tells stood (MeansNothing (Some schema)) ⊎ OfRead tells stood (MeansOther schema) → ⊥)
-      → ((error : OpenReadError) → facts.bad error → MeetsBadAt (after s turns) event error) → ((path : List ℕ) → facts.absent path → ⊥) → (IsReadError error → free) → StopsFor script s turns held free error
-  event_stops facts given tells schema stood event (errors.OpenReadError error) next h y never u b a f = read_fault {worse = λ e. (x : Event) × IsNext script turns x × free × MeetsBadAt (after s turns) x e} {gone = λ path. ⊥} error (λ r. tt) (λ q. tt) (λ e bad. (event, next, f tt, b e bad)) a h
+      → ((error : OpenReadError) → facts.bad error → MeetsBadAt (after s turns) event error) → ((path : List ℕ) → facts.absent path → ⊥) → (IsReadError error → (bad : OpenReadError) → facts.bad bad → free) → StopsFor script s turns held free error
+  event_stops facts given tells schema stood event (errors.OpenReadError error) next h y never u b a f = read_fault {worse = λ e. (x : Event) × IsNext script turns x × free × MeetsBadAt (after s turns) x e} {gone = λ path. ⊥} error (λ r. tt) (λ q. tt) (λ e bad. (event, next, f tt e bad, b e bad)) a h
   event_stops facts given tells schema stood event (errors.LockFailure lock.LockBusy text) next h y never u b a f = (event, next, (y h.0).0, (y h.0).1)
   event_stops facts given tells schema stood event (errors.LockFailure (lock.IoError fault) text) next h y never u b a f = tt
   event_stops facts given tells schema stood event (errors.LockFailure lock.Memory text) next h y never u b a f = absurd h.0
@@ -238,9 +239,6 @@ held_before script s turns held free held_then free_then (errors.DataCorruption 
 held_before script s turns held free held_then free_then (errors.SchemaError text) f k h = h
 held_before script s turns held free held_then free_then errors.Exhausted f k h = h
 held_before script s turns held free held_then free_then other f k h = tt
-
-names_differ : meta_lock_name ≢ writer_lock_name
-names_differ e = absurd cc
 
 pub meta_since : (start opened : Locks) → TakesLock start opened writer_lock_name → opened meta_lock_name ≡ start meta_lock_name
 meta_since start opened took = took.others meta_lock_name names_differ

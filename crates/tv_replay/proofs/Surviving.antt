@@ -11,10 +11,10 @@ use Rattle.tv_formats.specs.Schemas.{IsSchema, stripped}
 use Rattle.tv_formats.specs.Sound.{IsSoundDirectory, IsSoundImage}
 use Rattle.tv_formats.proofs.DiskLaws.{same, within_step}
 use Rattle.tv_machine.specs.State.{State}
-use Rattle.tv_machine.specs.declared.event.Event.{Event}
+use Rattle.tv_events.specs.declared.event.Event.{Event}
 use Rattle.tv_machine.specs.Index.{OpenedIndex}
 use Rattle.tv_machine.specs.Machine.{Turn, after, events_of}
-use Rattle.tv_machine.specs.Script.{Fits}
+use Rattle.tv_events.specs.Script.{Fits}
 use Rattle.tv_machine.specs.SoundStates.{IsSoundState, IsWhole}
 use Rattle.tv_machine.proofs.OpenedStates.{opens_sound}
 use Rattle.tv_machine.proofs.Serving.{front_fits, sound_after}
@@ -34,7 +34,7 @@ use Rattle.tv_store.specs.Kept.{IsHeld, StoreState}
 use Rattle.tv_store.specs.Opening.{Opens}
 use Rattle.tv_store.specs.Surviving.{RefusesSafely, StartsSafely, seen_of}
 use Rattle.tv_replay.specs.Replays.{BeginsWith}
-use Rattle.tv_replay.specs.ScriptLines.{TakesNextEvent}
+use Rattle.tv_script.specs.ScriptLines.{TakesNextEvent}
 use Rattle.tv_replay.specs.Surviving.{RunsInPart, SurvivesCrashes}
 use Rattle.tv_replay.proofs.AppliedEvents.{Progress, fits-last, reads_whole}
 use Rattle.tv_replay.proofs.AppliedWhole.{EventSurvives, hears_none, one_more_in_part}

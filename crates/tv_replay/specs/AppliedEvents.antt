@@ -1,5 +1,5 @@
 -- The events of a script, applied to a store that is open, one after the other.
-use Rattle.std.specs.Prelude.{ℕ, ◌≡◌, ◌≢◌, true, List, [], length, codes, Option, Some, None, option_map, Result, IfErr, OnOk, string_bytes}
+use Rattle.std.specs.Prelude.{ℕ, ◌≡◌, ◌≢◌, Bool, true, false, List, [], length, codes, Option, Some, None, option_map, Result, IfErr, OnOk, string_bytes}
 use Rattle.std.specs.List.{AllByRecursion}
 use Rattle.tv_base.specs.Causes.{IsDevice}
 use Rattle.tv_base.specs.Streams.{SourceView}
@@ -11,21 +11,24 @@ use Rattle.tv_machine.specs.State.{State}
 use Rattle.tv_machine.specs.SoundStates.{IsWhole}
 use Rattle.tv_machine.specs.Machine.{Turn, answers, after, events_of, all_refused}
 use Rattle.tv_machine.specs.Readable.{AllReadGood}
-use Rattle.tv_machine.specs.Script.{lines_of, Fits, AreLines}
+use Rattle.tv_events.specs.Script.{lines_of, Fits, AreLines}
 use Rattle.tv_crashes.specs.Runs.{RunsWhole}
 use Rattle.tv_device.specs.Locks.{LockCause}
+use Rattle.tv_device.specs.View.{GoesOn, Told, View}
+use Rattle.tv_device.specs.Watch.{MayNote}
 use Rattle.tv_device.specs.declared.directory.Directory.{Ghosts}
 use Rattle.tv_managed.specs.Collecting.{meta_lock_name}
-use Rattle.tv_store.specs.Applying.{HoldsNone}
+use Rattle.tv_store.specs.Applying.{HoldsNone, KeepsLocks}
 use Rattle.tv_store.specs.Durable.{IsDurable, store_files}
 use Rattle.tv_store.specs.Kept.{StoreState, IsHeld}
+use Rattle.tv_store.specs.Stays.{KeepsDotted}
 use Rattle.tv_store.specs.StoreCauses.{WriteFault, IsBusy, IsRefusal}
 use Rattle.tv_store.specs.ReadCauses.{ReadFault}
 use Rattle.tv_store.specs.Surviving.{seen_of}
 use Rattle.tv_store.specs.Telling.{TellsLines}
-use Rattle.tv_replay.specs.declared.lines.LineError.TheVariants as line
-use Rattle.tv_replay.specs.declared.next_event.ScriptError.{ScriptError}
-use Rattle.tv_replay.specs.declared.next_event.ScriptError.TheVariants as failed
+use Rattle.tv_script.specs.declared.lines.LineError.TheVariants as line
+use Rattle.tv_script.specs.declared.script_events.ScriptError.{ScriptError}
+use Rattle.tv_script.specs.declared.script_events.ScriptError.TheVariants as failed
 use Rattle.tv_replay.specs.declared.replaying.Tally.{Tally}
 use Rattle.tv_replay.specs.Replays.{TakesNoLock, LineRefusal, IsTooMany, StopsAt, IsQuietAt, IsRefusedAt, line_refusal, long_refusal}
 
@@ -62,6 +65,15 @@ pub record Runs {O W C : Type 0} (g : Ghosts O W C) (old new : StoreState O) (te
   pub lines : (whole : List ℕ) → text ≡ Some whole
       → AreLines (lines_of whole) (events_of turns) × (left ≡ Some [])
   pub applied : Applies g old new turns
+
+-- What the events of a run keep: writers may still be handed in, nobody was registered or called, and no file
+-- with a dot in front was changed but the list; a notice of a commit may stand. The locks stand as they
+-- stood, but for the meta lock where a reload waits for its files (`busy`), which it took.
+pub record RunFrame {W : Type 0} (told : Told) (busy : Bool) (old new : View W) : Type 0 where
+  pub dotted : told.content → KeepsDotted old.reads new.reads
+  pub goes_on : GoesOn told old new
+  pub locks : told.locks → KeepsLocks false busy old.locks new.locks
+  pub watched : MayNote meta_name old.watched new.watched
 
 -- what is true where a run stops: `busy` where a lock isn't given, `unread` where a reader isn't given the
 -- commit of `meta.json`, `refusal` of the text that says which line is no event's, `too_many` where there is

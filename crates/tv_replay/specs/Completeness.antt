@@ -3,11 +3,11 @@ use Rattle.std.specs.Prelude.{ℕ, ◌≡◌, ◌<◌, ◌^◌, List, length, Op
 use Rattle.tv_base.specs.Streams.{SourceView}
 use Rattle.tv_device.specs.Locks.{Locks}
 use Rattle.tv_device.specs.declared.directory.Directory.{Ghosts}
-use Rattle.tv_machine.specs.declared.event.Event.{Event}
+use Rattle.tv_events.specs.declared.event.Event.{Event}
 use Rattle.tv_formats.specs.Files.{Reads}
 use Rattle.tv_formats.specs.Schemas.{IsSchema}
 use Rattle.tv_formats.specs.Sound.{IsSoundStart}
-use Rattle.tv_machine.specs.Script.{lines_of, AreLines}
+use Rattle.tv_events.specs.Script.{lines_of, AreLines}
 use Rattle.tv_replay.specs.declared.replaying.Replayed.{Replayed}
 use Rattle.tv_replay.specs.Replays.{IsRefusedAt}
 

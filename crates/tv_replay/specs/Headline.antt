@@ -12,7 +12,7 @@ use Rattle.tv_machine.specs.Machine.{Turn, after, report, events_of, all_refused
 use Rattle.tv_formats.specs.Meaning.{Means}
 use Rattle.tv_formats.specs.Names.{meta_name}
 use Rattle.tv_formats.specs.Schemas.{stripped}
-use Rattle.tv_machine.specs.Script.{lines_of, AreLines}
+use Rattle.tv_events.specs.Script.{lines_of, AreLines}
 use Rattle.tv_machine.specs.State.{file_at}
 use Rattle.tv_store.specs.Stays.{KeepsDotted}
 use Rattle.tv_store.specs.Surviving.{seen_of}

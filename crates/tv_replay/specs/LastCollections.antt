@@ -1,12 +1,12 @@
 -- Scripts that end in a collection of an index that was just opened, and what their replay leaves.
 use Rattle.std.specs.Prelude.{ℕ, ◌≡◌, ◌<◌, ◌⊎◌, ◌&&◌, Bool, List, [], ◌∷◌, ◌++◌, codes, is_some}
 use Rattle.tv_formats.specs.Names.{has}
-use Rattle.tv_machine.specs.declared.event.Event.TheVariants as events
+use Rattle.tv_events.specs.declared.event.Event.TheVariants as events
 use Rattle.tv_machine.specs.State.{file_at}
 use Rattle.tv_machine.specs.Living.{living}
 use Rattle.tv_machine.specs.Index.{IsFileOf, OpenedIndex}
 use Rattle.tv_machine.specs.Machine.{Turn, after, all_refused, events_of}
-use Rattle.tv_machine.specs.Script.{AreLines, lines_of}
+use Rattle.tv_events.specs.Script.{AreLines, lines_of}
 use Rattle.tv_device.specs.View.{View}
 use Rattle.tv_device.specs.declared.directory.Directory.{Ghosts}
 

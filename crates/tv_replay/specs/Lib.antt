@@ -1,7 +1,4 @@
-pub mod Fields
-pub mod EventWords
-pub mod ScriptLines
-pub mod ScriptCauses
+pub mod ScriptEnds
 pub mod Replays
 pub mod Surviving
 pub mod AppliedEvents
@@ -12,6 +9,8 @@ pub mod Generated
 pub mod Summaries
 pub mod Commands
 pub mod Runs
+pub mod SpaceRuns
+pub mod WordRuns
 pub mod Headline
 pub mod LastCollections
 pub mod BenchPlace

@@ -1,8 +1,8 @@
 -- A script replayed over a directory.
 use Rattle.std.specs.Prelude.{ℕ, ◌≡◌, ◌≢◌, ◌⊎◌, ◌+◌, ◌≤◌, Bool, true, false, List, [], ◌∷◌, ◌++◌, length, codes, Option, Some, None, IsSome, option_map, Result, IfErr, OnOk, string_bytes}
 use Rattle.std.specs.Fmt.{decimal}
-use Rattle.tv_machine.specs.declared.event.Event.{Event}
-use Rattle.tv_machine.specs.declared.event.Event.TheVariants as events
+use Rattle.tv_events.specs.declared.event.Event.{Event}
+use Rattle.tv_events.specs.declared.event.Event.TheVariants as events
 use Rattle.tv_formats.specs.Names.{meta_name}
 use Rattle.tv_formats.specs.Files.{Reads, Same, Heard, Rose, RoseBy}
 use Rattle.tv_formats.specs.Commits.{IndexForm}
@@ -14,7 +14,7 @@ use Rattle.tv_machine.specs.Readable.{AllReadGood}
 use Rattle.tv_machine.specs.Serving.{Serves, ServesAsSealed}
 use Rattle.tv_machine.specs.Collecting.{CollectsIn, CollectsInStepsIn}
 use Rattle.tv_machine.specs.Validating.{Validates}
-use Rattle.tv_machine.specs.Script.{lines_of, AreLines}
+use Rattle.tv_events.specs.Script.{lines_of, AreLines}
 use Rattle.tv_machine.specs.Index.{DirectoryHolds, FoundIndex, OpenedIndex, found_commits}
 use Rattle.tv_formats.specs.Sound.{HasFiles, IsSoundDirectory, IsSoundImage}
 use Rattle.tv_crashes.specs.Runs.{ReplaySurvives}
@@ -29,7 +29,7 @@ use Rattle.tv_base.specs.declared.open_errors.LockError.TheVariants as lock
 use Rattle.tv_base.specs.declared.error.TantivyError.{TantivyError}
 use Rattle.tv_base.specs.declared.error.TantivyError.TheVariants as errors
 use Rattle.tv_replay.specs.declared.replaying.Tally.{Tally}
-use Rattle.tv_replay.specs.ScriptLines.{IsNoEvent, IsTooLong, IsAhead}
+use Rattle.tv_script.specs.ScriptLines.{IsNoEvent, IsTooLong, IsAhead}
 use Rattle.tv_catalog.specs.Effects.{TakesMetaLock}
 use Rattle.tv_store.specs.ReadCauses.{ReadFault}
 use Rattle.tv_index.specs.Opening.{NotesMade, OpenCause}

@@ -241,33 +241,3 @@ module _ {O W C : Type 0} (g : Ghosts O W C) (told : PlaceTold) where
     pub other : status ≡ 1 → (error ≢ errors.Memory) × Reports loan (error_line error)
     pub memory : status ≡ 3 → Reports loan memory_line
     pub statuses : (status ≡ 1) ⊎ (status ≡ 3)
-
-  -- What stands after a run of these words: a script was replayed, or one was generated, and that of the
-  -- caller is as it was.
-  pub record EndsRun (words : List (List ℕ)) (old new : Scene O) (status : ℕ) : Type 0 where
-    pub replayed : (folder path : List ℕ) → words ≡ replay_words folder path
-        → EndsReplay (record { folder = folder; path = path; old = old; new = new }) status
-    pub generated : (n : ℕ) → n ≤ most_commits → words ≡ generate_words n
-        → EndsGenerate told n old.place new.place status × KeepsScript old new
-
-  -- A run that replays a script over a folder, with the schema of a path, where all of this is told: both are
-  -- there, they and the script are ready for a replay, and nothing is refused, neither by the place nor by
-  -- the directory nor in the script.
-  pub record IsUndisturbedRun (words : List (List ℕ)) (old new : Scene O) : Type 0 where
-    pub folder : List ℕ
-    pub path : List ℕ
-    pub words_are : words ≡ replay_words folder path
-    pub place : told.content
-    pub content : g.told.content
-    pub locks : g.told.locks
-    pub before : O
-    pub now : O
-    pub schema : List ℕ
-    pub lent : old.place.kept folder ≡ Some before
-    pub given_back : new.place.kept folder ≡ Some now
-    pub schema_is : old.place.schemas path ≡ Some schema
-    pub ready : IsReady schema old.script.left (g.view before).reads (g.view before).locks
-    pub still : (g.view now).faults ≡ (g.view before).faults
-    pub not_last : (g.view now).faults < 18446744073709551615
-    pub script_still : Rose old.script.faults new.script.faults → ⊥
-    pub place_still : Rose old.place.faults new.place.faults → ⊥

@@ -7,7 +7,7 @@ use Rattle.tv_formats.specs.Files.{Reads}
 use Rattle.tv_machine.specs.Index.{DirectoryHolds, first_state}
 use Rattle.tv_machine.specs.Machine.{Turn, after, all_refused, events_of, report}
 use Rattle.tv_formats.specs.Names.{is, meta_name}
-use Rattle.tv_machine.specs.Script.{AreLines, lines_of}
+use Rattle.tv_events.specs.Script.{AreLines, lines_of}
 use Rattle.tv_machine.specs.State.{State, file_at}
 use Rattle.tv_replay.specs.Generated.{generated}
 

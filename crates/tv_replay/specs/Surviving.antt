@@ -7,7 +7,7 @@ use Rattle.tv_machine.specs.State.{State}
 use Rattle.tv_machine.specs.SoundStates.{IsWhole}
 use Rattle.tv_machine.specs.Index.{OpenedIndex}
 use Rattle.tv_machine.specs.Machine.{Turn, events_of}
-use Rattle.tv_machine.specs.Script.{Fits}
+use Rattle.tv_events.specs.Script.{Fits}
 use Rattle.tv_crashes.specs.Runs.{OpensUntold, ReplaySurvives, RunsSafely}
 use Rattle.tv_device.specs.declared.directory.Directory.{Ghosts}
 use Rattle.tv_store.specs.Durable.{IsDurable, store_files}

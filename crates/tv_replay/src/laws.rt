@@ -1,28 +1,23 @@
-//! Laws of lines, replays and runs: what the calls promise to whoever uses them. Each calls the real
+//! Laws of replays and runs: what the calls promise to whoever uses them. Each calls the real
 //! one, and says in a user's words what follows from its contract.
-ghost use Rattle.std.specs.Prelude.{◌≡◌, ◌≢◌, ◌≤◌, ◌++◌, [], ◌∷◌, ℕ, List, None, Ok, Some, codes, length, map, IfErr, IfOk, IfSome, OnOk, string_bytes};
-ghost use Rattle.std.specs.List.{join_with_byte};
-ghost use Rattle.hex.specs.Hex.{decode_of, encode_lower};
-ghost use Rattle.tv_machine.specs.declared.event.Event.TheVariants as events;
+ghost use Rattle.std.specs.Prelude.{◌≡◌, ◌≢◌, [], ℕ, List, None, Some, length, map, IfErr, IfOk, OnOk, string_bytes};
 ghost use Rattle.tv_formats.specs.Sound.{IsSoundStart};
 ghost use Rattle.tv_formats.specs.Schemas.{stripped};
-ghost use Rattle.tv_machine.specs.Script.{Fits, line_limit, lines_of};
-ghost use Rattle.tv_replay.specs.Commands.{replay_words, IsNoCommand};
+ghost use Rattle.tv_events.specs.Script.{lines_of};
+ghost use Rattle.tv_replay.specs.Commands.{AskFor, IsNoCommand};
 ghost use Rattle.tv_replay.specs.Completeness.{IsUndisturbed};
 ghost use Rattle.tv_replay.specs.Headline.{Headline, RunSurvives, RunsSoundly, StartsSoundly};
 ghost use Rattle.tv_replay.specs.LastCollections.{EndsCollecting, LeavesNeeded, RefusesNoDelete};
-ghost use Rattle.tv_replay.specs.Runs.{IsUndisturbedRun};
 ghost use Rattle.tv_replay.specs.Surviving.{SurvivesReplay};
+ghost use Rattle.tv_replay.specs.WordRuns.{IsUndisturbedRun};
 
 use crate::place::Place;
 use crate::program::run;
 use crate::replaying::{Replayed, replay};
-use crate::script::parse_event;
 use std::alloc::Global;
 use tv_base::{Source, TantivyError};
 use tv_device::Outside;
 use tv_formats::Memory;
-use tv_machine::Event;
 
 /// From a sound start, a replay that answers Ok has told, line by line, a run of the machine on the
 /// whole script, and left its files and its list.
@@ -68,7 +63,7 @@ pub fn runs_the_machine_over_a_folder<P: Place, R: Source>(
     script: &mut R,
 ) -> u8
     requires free { (P.view place.old).lent ≡ None }
-    requires paths { (folder path : List ℕ) → map string_bytes words.now ≡ replay_words folder path
+    requires paths { (folder path : List ℕ) → AskFor (map string_bytes words.now) folder path
         → P.is_folder_path folder × P.is_schema_path path }
     ensures headline { (start : StartsSoundly P.Out.Directory P.told (map string_bytes words.now)
         (record { place = P.view place.old; script = R.view script.old })) → result ≡ 0
@@ -101,32 +96,6 @@ pub fn a_collection_leaves_what_is_needed<O: Outside, R: Source>(
     replay(alloc, outside, schema, script)
 }
 
-/// A line spells its event in one way: a number has no leading zero, one space alone stands between
-/// two words, and an id has lower-case digits.
-pub fn spells_an_event_one_way(alloc: Global, line: &[u8]) -> Result<Option<Event>, Memory>
-    ensures zero { (rest : List ℕ) → rest ≢ [] → line.now ≡ codes "reload 0" ++ rest
-        → IfOk result (λ found. found ≡ None) }
-    ensures spaces { (front rest : List ℕ) → line.now ≡ front ++ 32 ∷ 32 ∷ rest
-        → IfOk result (λ found. found ≡ None) }
-    ensures lower { (word : List ℕ) → line.now ≡ codes "segment " ++ word
-        → IfOk result (λ found. IfSome found (λ event.
-        (id : List ℕ) × (event ≡ events.Segment id) × (word ≡ encode_lower id))) }
-{
-    parse_event(alloc, line)
-}
-
-/// The line of a commit with a payload is read with that payload, and with its ids.
-pub fn keeps_the_payload(alloc: Global, line: &[u8]) -> Result<Option<Event>, Memory>
-    ensures { (text digits : List ℕ) (ids : List (List ℕ))
-        → Fits (events.Commit (Some text) ids) → decode_of digits ≡ Ok text
-        → line.now ≡ join_with_byte 32
-        (codes "commit" ∷ (43 ∷ digits) ∷ map encode_lower ids)
-        → length line.now ≤ line_limit
-        → IfOk result (λ found. found ≡ Some (events.Commit (Some text) ids)) }
-{
-    parse_event(alloc, line)
-}
-
 /// A replay that answers Ok counted every line of its script, and left none. One that nothing
 /// disturbs answers Ok, or wants memory.
 pub fn replays_the_whole_script<O: Outside, R: Source>(
@@ -154,7 +123,7 @@ pub fn ends_with_its_status<P: Place, R: Source>(
     script: &mut R,
 ) -> u8
     requires free { (P.view place.old).lent ≡ None }
-    requires paths { (folder path : List ℕ) → map string_bytes words.now ≡ replay_words folder path
+    requires paths { (folder path : List ℕ) → AskFor (map string_bytes words.now) folder path
         → P.is_folder_path folder × P.is_schema_path path }
     ensures usage { IsNoCommand (map string_bytes words.now) → result ≡ 2 }
     ensures complete { IsUndisturbedRun P.Out.Directory P.told (map string_bytes words.now)

@@ -1,5 +1,4 @@
-//! Scripts replayed over a directory: the grammar of their events, their replay over an index, and
-//! the program's top call.
+//! Scripts replayed over a directory: their replay over an index, and the program's top call.
 #![tactic(auto)]
 
 mod bench_place;
@@ -8,15 +7,12 @@ mod error_line;
 mod folder_place;
 mod generating;
 pub mod laws;
-mod lines;
-mod next_event;
 mod place;
 mod program;
 mod replaying;
-mod script;
-mod script_buffer;
+mod saying;
+mod space;
 mod summary;
-mod words;
 
 pub use bench_place::BenchPlace;
 pub use folder_place::FolderPlace;
@@ -24,7 +20,7 @@ pub use generating::generate;
 pub use place::Place;
 pub use program::run;
 pub use replaying::{Replayed, Tally, replay};
-pub use script::parse_event;
 pub use tv_formats::{SegmentComponent, SegmentId};
 pub use tv_machine::{Answer, Blob, Event, IdList, ReloadPolicy, Text};
+pub use tv_script::parse_event;
 pub use tv_store::IndexStore;

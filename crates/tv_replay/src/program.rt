@@ -1,26 +1,20 @@
 //! The top call of the program.
-ghost use Rattle.std.specs.Prelude.{◌≡◌, ◌⊎◌, ◌↔◌, List, ℕ, None, IsSome, true, map, string_bytes};
-ghost use Rattle.tv_device.specs.Images.{KeepsDisk};
-ghost use Rattle.tv_formats.specs.Files.{has_no_feed};
-ghost use Rattle.tv_replay.specs.ErrorLines.{error_line};
-ghost use Rattle.tv_replay.specs.Commands.{replay_words, IsNoCommand};
-ghost use Rattle.tv_replay.specs.Runs.{usage_line, OnlySays, SaysError, TellsOrPart};
-ghost use Rattle.tv_replay.specs.Runs.{IsStatusOf, IsUndisturbedRun, EndsGenerate, EndsRun, EndsReplay, Reports, ReportsError};
+ghost use Rattle.std.specs.Prelude.{◌≡◌, ◌⊎◌, ◌↔◌, List, ℕ, None, map, string_bytes};
+ghost use Rattle.tv_replay.specs.Commands.{AskFor, IsNoCommand};
+ghost use Rattle.tv_replay.specs.Runs.{usage_line, EndsGenerate, EndsReplay, OnlySays};
+ghost use Rattle.tv_replay.specs.WordRuns.{EndsRun, IsUndisturbedRun};
 
 use crate::command::{Command, command_of};
-use crate::error_line::error_line;
 use crate::place::Place;
 use crate::replaying::{Replayed, replay};
+use crate::saying::{MEMORY_LINE, give_back_after, say_error, say_line};
+use crate::space::run_space;
 use crate::summary::summary_of;
 use std::alloc::Global;
 use tv_base::{Source, TantivyError};
-use tv_device::Outside;
 
 const USAGE: &str =
     "usage: tv replay FOLDER SCHEMA | space FOLDER SCHEMA | generate N | race FOLDER SCHEMA HANDLES SCRIPT..";
-
-// What is told or said where memory was wanted.
-const MEMORY_LINE: &[u8] = b"error memory";
 
 /// Does what the words of a command line say, and answers the status with which the program ends: 0
 /// where that was done, 1 after an error, 2 where the words are of no command, and 3 where memory was
@@ -28,7 +22,9 @@ const MEMORY_LINE: &[u8] = b"error memory";
 ///
 /// `replay FOLDER SCHEMA` replays the script over the folder, with the schema of the path. After an
 /// error its line is told to the folder's owner, or said: one line, or a part of it where the place
-/// refuses that too. `generate N`, with N from 0 to 1000, generates a script of N commits, replays it
+/// refuses that too. `space FOLDER SCHEMA` says how much space the files of the folder's index take, and
+/// changes nothing in the folder: it takes no lock, and writes no file. After an error its line is told
+/// or said likewise. `generate N`, with N from 0 to 1000, generates a script of N commits, replays it
 /// over a new index in memory, and says its summary. (So far the other words of the usage are of no
 /// command.) Where no replay begins, the script is left as it was: by these words and by words of no
 /// command, and where the place refuses the schema or the folder.
@@ -39,7 +35,7 @@ pub fn run<P: Place, R: Source>(
     script: &mut R,
 ) -> u8
     requires free { (P.view place.old).lent ≡ None }
-    requires paths { (folder path : List ℕ) → map string_bytes words.now ≡ replay_words folder path
+    requires paths { (folder path : List ℕ) → AskFor (map string_bytes words.now) folder path
         → P.is_folder_path folder × P.is_schema_path path }
     ensures free { (P.view place.new).lent ≡ None }
     ensures usage { (result ≡ 2) ↔ IsNoCommand (map string_bytes words.now) }
@@ -47,7 +43,7 @@ pub fn run<P: Place, R: Source>(
     ensures usage_line { result ≡ 2
         → OnlySays P.told (P.view place.old) (P.view place.new) usage_line
         × (R.view script.new ≡ R.view script.old) }
-    // What was replayed or generated, told and said.
+    // What was replayed, measured or generated, told and said.
     ensures ends { EndsRun P.Out.Directory P.told (map string_bytes words.now)
         (record { place = P.view place.old; script = R.view script.old })
         (record { place = P.view place.new; script = R.view script.new }) result }
@@ -60,6 +56,7 @@ pub fn run<P: Place, R: Source>(
 {
     match command_of(words) {
         Some(Command::Replay(folder, path)) => run_replay(alloc, folder, path, place, script),
+        Some(Command::Space(folder, path)) => run_space(alloc, folder, path, place),
         Some(Command::Generate(n)) => run_generate(alloc, n, place),
         None => {
             say_line(place, USAGE.as_bytes());
@@ -115,95 +112,5 @@ fn run_replay<P: Place, R: Source>(
             0
         }
         Err(error) => give_back_after(alloc, place, outside, error),
-    }
-}
-
-// Says a line.
-#[tactic(auto, using(crate::proofs::Runs::only_says))]
-fn say_line<P: Place>(place: &mut P, line: &[u8])
-    ensures says { OnlySays P.told (P.view place.old) (P.view place.new) line.now }
-{
-    let _refused = place.say(line);
-}
-
-// Says the line of an error, and answers its status.
-fn say_error<P: Place>(alloc: Global, place: &mut P, error: TantivyError) -> u8
-    ensures { SaysError P.told (P.view place.old) (P.view place.new) error result }
-{
-    match error_line(alloc, &error) {
-        Ok(line) => {
-            say_line(place, line.as_slice());
-            status_of(&error)
-        }
-        Err(_) => {
-            say_line(place, MEMORY_LINE);
-            3
-        }
-    }
-}
-
-// The status of an error.
-fn status_of(error: &TantivyError) -> u8
-    ensures { IsStatusOf error.now result }
-{
-    match error {
-        TantivyError::Memory => 3,
-        _ => 1,
-    }
-}
-
-// Tells the line of an error to the directory that was lent, and gives that back; where the line
-// can't be told, it is said.
-fn give_back_after<P: Place>(
-    alloc: Global,
-    place: &mut P,
-    outside: P::Out,
-    error: TantivyError,
-) -> u8
-    requires lent { IsSome (P.view place.old).lent }
-    requires feed { has_no_feed (error_line error) ≡ true }
-    ensures { ReportsError P.Out.Directory P.told
-        (record { stopped = outside; old = P.view place.old; new = P.view place.new })
-        error result }
-{
-    match error_line(alloc, &error) {
-        Ok(line) => {
-            report(place, outside, line.as_slice());
-            status_of(&error)
-        }
-        Err(_) => {
-            report(place, outside, MEMORY_LINE);
-            3
-        }
-    }
-}
-
-// Tells a line to the directory that was lent, and gives that back; where it can't be told, it is
-// said.
-fn report<P: Place>(place: &mut P, outside: P::Out, line: &[u8])
-    requires lent { IsSome (P.view place.old).lent }
-    requires feed { has_no_feed line.now ≡ true }
-    ensures free { (P.view place.new).lent ≡ None }
-    ensures reports { Reports P.Out.Directory P.told
-        (record { stopped = outside; old = P.view place.old; new = P.view place.new }) line.now }
-{
-    let mut outside = outside;
-    let told = tell_line(&mut outside, line);
-    place.give_back(outside);
-    if told {
-        return;
-    }
-    say_line(place, line);
-}
-
-// Tells a line, where there is room for it and it isn't refused.
-fn tell_line<O: Outside>(outside: &mut O, line: &[u8]) -> bool
-    requires { has_no_feed line.now ≡ true }
-    ensures tells { TellsOrPart O.told (O.view outside.old) (O.view outside.new) line.now result }
-    ensures images { O.tells_images → KeepsDisk (O.disk outside.old) (O.disk outside.new) }
-{
-    match outside.ready(line.len()) {
-        Ok(()) => outside.tell(line).is_ok(),
-        Err(_) => false,
     }
 }

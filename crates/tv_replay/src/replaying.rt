@@ -1,24 +1,23 @@
 //! A script replayed over a directory.
-ghost use Rattle.std.specs.Prelude.{◌≡◌, ◌≤◌, ◌+◌, ℕ, List, None, true, length, IfOk, IfErr, OnOk, string_bytes};
-ghost use Rattle.tv_machine.specs.Script.{line_limit};
+ghost use Rattle.std.specs.Prelude.{◌≡◌, ◌≤◌, ◌+◌, ℕ, List, None, true, false, length, IfOk, IfErr, OnOk, string_bytes};
+ghost use Rattle.tv_events.specs.Script.{line_limit};
+ghost use Rattle.tv_machine.specs.Living.{is_busy};
 ghost use Rattle.tv_store.specs.Kept.{AtMost};
 ghost use Rattle.tv_catalog.specs.ReaderNumbers.{FewNumbers};
 ghost use Rattle.tv_store.specs.StoreCauses.{IsRefusal};
-ghost use Rattle.tv_replay.specs.AppliedEvents.{Runs, RunFaults, StopsRun, ScriptEndFaults, IsErrorOf};
+ghost use Rattle.tv_replay.specs.AppliedEvents.{Runs, RunFrame, RunFaults, StopsRun, ScriptEndFaults, IsErrorOf};
 ghost use Rattle.tv_replay.specs.Completeness.{IsUndisturbed};
 ghost use Rattle.tv_replay.specs.Replays.{Replays, ReplayFaults, ReplayFrame, StopsReplay, IsReadOut};
 ghost use Rattle.tv_replay.specs.Replays.{line_refusal, long_refusal, replay_call};
-ghost use Rattle.tv_replay.specs.ScriptLines.{pending, TakesNextEvent, ReadsAhead};
-ghost use Rattle.tv_replay.specs.ScriptCauses.{EndReads};
+ghost use Rattle.tv_script.specs.ScriptLines.{pending, TakesNextEvent, ReadsAhead};
+ghost use Rattle.tv_replay.specs.ScriptEnds.{EndReads};
 ghost use Rattle.tv_replay.specs.Surviving.{RunsInPart, SurvivesReplay};
 
-use crate::lines::LineError;
-use crate::next_event::{ScriptError, next_event};
-use crate::script_buffer::ScriptBuffer;
 use std::alloc::{AllocError, Global};
 use tv_base::{Source, TantivyError};
 use tv_device::Outside;
 use tv_managed::Refused;
+use tv_script::{LineError, ScriptBuffer, ScriptError, next_event};
 use tv_store::IndexStore;
 
 /// What a replay did: how many lines its script had.
@@ -98,13 +97,15 @@ fn apply_all<O: Outside, R: Source>(
     requires open { store.old.standing.is_open ≡ true }
     requires short { AtMost 0 store.old.kept }
     requires few { FewNumbers 0 store.old.kept.catalog.reading store.old.kept.collections }
+    requires idle { is_busy store.old.kept.catalog ≡ false }
     ensures done { IfOk result
         (Runs O.Directory store.old store.new (R.view script.old).left (R.view script.new).left) }
     ensures stops { IfErr result
         (StopsRun O.Directory store.old store.new (R.view script.old) (R.view script.new)) }
     ensures faults { RunFaults O.Directory store.old store.new (R.view script.old)
         (R.view script.new) result }
-    ensures frame { ReplayFrame O.told (O.view store.old.outside) (O.view store.new.outside) }
+    ensures frame { RunFrame O.told (is_busy store.new.kept.catalog)
+        (O.view store.old.outside) (O.view store.new.outside) }
     ensures survives { RunsInPart O.Directory store.old store.new (R.view script.old).left }
 {
     let mut buffer = ScriptBuffer::new(alloc)?;

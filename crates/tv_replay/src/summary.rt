@@ -10,7 +10,6 @@ ghost use Rattle.tv_replay.specs.Summaries.{before_failed, collected_in, deleted
 
 use crate::generating::generate;
 use crate::replaying::{Replayed, replay};
-use crate::script::words_of;
 use std::alloc::Global;
 use tv_base::{META_FILEPATH, OpenReadError, Opstamp, TantivyError, TextSource};
 use tv_device::{Directory, NoWatch};
@@ -18,6 +17,7 @@ use tv_directory::Bench;
 use tv_formats::Memory;
 use tv_index::UntrackedIndexMeta;
 use tv_managed::{ManagedDirectory, Refused};
+use tv_script::words_of;
 
 // The schema of the index, which has no fields.
 const SCHEMA: &[u8] = b"[]";

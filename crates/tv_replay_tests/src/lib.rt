@@ -32,4 +32,6 @@ mod replays;
 #[cfg(test)]
 mod runs;
 #[cfg(test)]
+mod spaces;
+#[cfg(test)]
 mod stores;

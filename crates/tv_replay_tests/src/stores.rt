@@ -124,7 +124,38 @@ fn read_what_was_written<R: Files<File = File> + Abort, O: Outside>(
     apply(rt, store, &Event::Searcher(0), "searcher 1 1 8");
 }
 
-// The same of an index in this directory.
+// A reload in steps shows the commit that it has noted, whatever was written since; readers with a notice show
+// what was written.
+fn read_what_was_noted<R: Files<File = File> + Abort, O: Outside>(
+    rt: &R,
+    alloc: Global,
+    store: &mut IndexStore<O>,
+) {
+    let reader = Event::Reader(ReloadPolicy::OnCommitWithDelay);
+    apply(rt, store, &reader, "reader 0 0 8");
+    overwrite(rt, SEVENTH);
+    apply(rt, store, &Event::ReloadLock(0), "locked 0 8");
+    apply(rt, store, &Event::ReloadOpen(0), "read 0");
+    apply(rt, store, &Event::ReloadPublish(0), "published 0 1 8");
+    apply(rt, store, &Event::Searcher(0), "searcher 0 1 8");
+    apply_line(rt, alloc, store, "commit -", "commit 9 0");
+    overwrite(rt, EIGHTH);
+    apply(rt, store, &Event::Deliver, "delivered 0");
+    apply(rt, store, &Event::Searcher(0), "searcher 1 2 8");
+}
+
+// The same of an index in this directory, that of a commit with the opstamp 8.
+fn shows_what_was_noted<R: Files<File = File> + Abort, O: Outside + Drop>(
+    rt: &R,
+    alloc: Global,
+    outside: O,
+) {
+    let mut store = open(rt, alloc, outside);
+    read_what_was_noted(rt, alloc, &mut store);
+    drop(store.into_outside());
+}
+
+// A new reader and a reload in an index in this directory do so.
 fn shows_what_was_written<R: Files<File = File> + Abort, O: Outside + Drop>(
     rt: &R,
     alloc: Global,
@@ -179,6 +210,7 @@ fn is_refused<R: Files<File = File> + Clone + Drop + Abort + Eprint>(
 fn a_reader_loads_what_was_written(rt: HostRuntime) {
     make_folder(&rt, rt.alloc(), FOLDER);
     shows_what_was_written(&rt, rt.alloc(), folder_desk(&rt, rt.alloc(), FOLDER));
+    shows_what_was_noted(&rt, rt.alloc(), folder_desk(&rt, rt.alloc(), FOLDER));
     for (text, want) in REFUSED {
         is_refused(&rt, rt.alloc(), text, want);
     }

@@ -1,10 +1,9 @@
 -- What an event does that is planned, performed, answered and settled.
-use Rattle.std.proofs.Common.{ℕ, ◌≡◌, ◌≢◌, ◌≤◌, ◌<◌, ◌+◌, ◌⊎◌, ⊎_elim, inl, inr, true, false, List, [], ◌∷◌, Bool, length, Option, Some, None, Result, Ok, Err, refl, sym, ap, subst, ◌∙◌, arith}
-use Rattle.std.specs.Prelude.{IfSome}
+use Rattle.std.proofs.Common.{ℕ, ◌≡◌, ◌≢◌, ◌<◌, ◌+◌, ◌⊎◌, ⊎_elim, inl, inr, true, false, List, [], ◌∷◌, Bool, length, Option, Some, None, Result, Ok, Err, refl, sym, ap, subst, ◌∙◌, arith}
+use Rattle.std.specs.Prelude.{IfErr, IfSome, OnErr, OnOk}
 use Rattle.std.specs.List.{AllByRecursion}
 use Rattle.tv_base.specs.declared.error.TantivyError.{TantivyError}
 use Rattle.tv_base.specs.declared.error.TantivyError.TheVariants as errors
-use Rattle.tv_base.specs.declared.open_errors.LockError.TheVariants as lock
 use Rattle.tv_device.specs.View.{OnlyReads, View}
 use Rattle.tv_device.specs.ViewLaws.{goes_on_itself, goes_then}
 use Rattle.tv_device.specs.declared.directory.Directory.{Ghosts}
@@ -20,34 +19,34 @@ use Rattle.tv_device.specs.Watch.{WatchState, noted}
 use Rattle.tv_formats.specs.Names.{at, meta_name}
 use Rattle.tv_machine.specs.Machine.{refused_in, step}
 use Rattle.tv_machine.specs.Readable.{AreGoodFiles, ReadsGood}
-use Rattle.tv_machine.specs.ReaderEvents.{with_new_reader, with_reloaded}
 use Rattle.tv_machine.specs.SoundStates.{IsWhole}
-use Rattle.tv_machine.specs.State.{Catalog, Reader, Readers, Snapshot, State, StepResult, file_at, reader_at}
-use Rattle.tv_machine.specs.declared.event.Event.{Event}
-use Rattle.tv_machine.specs.declared.reload_policy.ReloadPolicy.{ReloadPolicy}
-use Rattle.tv_machine.specs.declared.event.Event.TheVariants as events
+use Rattle.tv_machine.specs.Living.{is_busy}
+use Rattle.tv_machine.specs.State.{Catalog, Locked, Read, Reader, Reload, Snapshot, State, StepResult, file_at, reader_at}
+use Rattle.tv_events.specs.declared.event.Event.{Event}
+use Rattle.tv_events.specs.declared.reload_policy.ReloadPolicy.{ReloadPolicy}
+use Rattle.tv_events.specs.declared.event.Event.TheVariants as events
 use Rattle.tv_managed.specs.Collecting.{meta_lock_name}
 use Rattle.tv_store.proofs.Asking.{kept_by_files}
-use Rattle.tv_store.proofs.FewNumbers.{few_below, few_more}
+use Rattle.tv_store.proofs.BusyCatalogs.{settled_busy}
 use Rattle.tv_store.proofs.FilesHeld.{written_is}
 use Rattle.tv_store.proofs.Holding.{same_holds}
-use Rattle.tv_store.proofs.KeptLocks.{keeps_same}
+use Rattle.tv_store.proofs.LockingCauses.{locking_as}
+use Rattle.tv_store.proofs.KeptLocks.{keeps_same, then_keeps}
 use Rattle.tv_store.proofs.PlannedCommit.{stays_or_next}
 use Rattle.tv_store.proofs.LoadedFiles.{unloaded_before}
 use Rattle.tv_store.proofs.Performing.{noted_by}
-use Rattle.tv_store.proofs.ReaderEvents.{busy_before, loading_weaker}
-use Rattle.tv_store.proofs.ReaderNumbers.{few_added, few_published}
+use Rattle.tv_store.proofs.ReaderEvents.{busy_before, cause_weaker, loading_of, loading_weaker}
+use Rattle.tv_store.proofs.SettledNumbers.{few_after}
 use Rattle.tv_store.proofs.Steps.{at_most, locking_cause, locks_none, longer}
 use Rattle.tv_store.specs.Acting.{Acts, LeavesStep, Passes}
-use Rattle.tv_catalog.specs.Actions.{MayGive, OnlyKeeps, SpentBy, LocksMeta, added_by, after, after_end, after_one, after_tried, catalog_after, line_of, of_body, reply_in, tried_in, tried_of, changed, loaded_by, settled, numbers_by, with_published, with_reader}
-use Rattle.tv_store.specs.Performing.{MayNoteBy, FailsBy, FilesHold, KeepsBy, Performed, Performs, SavedNone, loading_facts}
+use Rattle.tv_catalog.specs.Actions.{MayGive, OnlyKeeps, SpentBy, Suits, LocksMeta, added_by, after, after_end, after_one, after_tried, catalog_after, keeps_lock, line_of, of_body, reply_in, tried_in, tried_of, changed, loaded_by, settled, with_added, with_delivered, with_kept, with_published, with_reload}
+use Rattle.tv_store.specs.Performing.{MayNoteBy, FailsBy, FilesHold, KeepsBy, Performed, Performs, SavedNone, HoldNoneWith, LacksFileOf, loading_facts}
 use Rattle.tv_store.specs.Applying.{ActCause, LeavesAlone, LeavesCommit, MayNoteAt, SavesAt, SavesPrinted, StepsHeld, UnloadedAt, UnloadedFor, event_facts}
-use Rattle.tv_catalog.specs.Effects.{TakesMetaLock, written_by}
+use Rattle.tv_catalog.specs.Effects.{LoadsCommit, ReadsFiles, TakesMetaLock, written_by}
 use Rattle.tv_catalog.specs.Exhausted.{IsExhausted}
 use Rattle.tv_store.specs.Kept.{AtMost, FilesState, Holds, Standing, StoreState, kept_of}
-use Rattle.tv_catalog.specs.Plans.{ChangesBeside, InMemory, LoadsFor, PlanCause, Plans}
-use Rattle.tv_store.specs.ReadCauses.{IsReadError}
-use Rattle.tv_catalog.specs.ReaderNumbers.{FewNumbers}
+use Rattle.tv_catalog.specs.Plans.{ChangesBeside, InMemory, LoadsFor, PlanCause, Plans, TakesNoMemory}
+use Rattle.tv_store.specs.ReadCauses.{IsReadError, reading_facts}
 use Rattle.tv_store.specs.Stays.{KeepsDotted, KeepsFiles}
 use Rattle.tv_store.specs.StoreCauses.{IsBusy, LockingCause}
 use Rattle.tv_catalog.specs.declared.action.Action.{Action}
@@ -67,43 +66,8 @@ pub saved_none : (reply : Reply) → ((commit : Commit) → reply ≡ replies.Sa
 saved_none (replies.Saved commit) none = none commit refl
 saved_none other none = tt
 
--- numbers stay few behind a change
-few_beside : (bound n : ℕ) (reading : Readers) (before now : Collections) → now.next ≤ bound + n → FewNumbers bound reading before → FewNumbers (bound + n) reading now
-few_beside bound n reading before now le few = let more = few_more bound n reading before few in record { next_reader = more.next_reader; next_searcher = more.next_searcher; next_collection = le; next_snapshots = more.next_snapshots }
-
-few_one_more : (bound n : ℕ) (reading : Readers) (before now : Collections) → 1 ≤ n → now.next ≤ bound + n → FewNumbers (bound + 1) reading before → FewNumbers (bound + n) reading now
-few_one_more bound n reading before now some le few =
-    let more = few_below (bound + 1) (bound + n) reading before (omega (arith, some)) few in
-    record { next_reader = more.next_reader; next_searcher = more.next_searcher; next_collection = le; next_snapshots = more.next_snapshots }
-
-few_reading : (bound n : ℕ) (c : Catalog) (policy : ReloadPolicy) (loaded : Option Snapshot) (before now : Collections) → 1 ≤ n → now.next ≤ bound + n → FewNumbers bound c.reading before → FewNumbers (bound + n) (with_reader c policy loaded).reading now
-few_reading bound n c policy None before now some le few = few_beside bound n c.reading before now le few
-few_reading bound n c policy (Some shown) before now some le few =
-    few_one_more bound n (with_new_reader c policy shown).reading before now some le
-    (few_added bound c.reading before _ c.reading.next_reader (record { policy = policy; next = 1; shown = shown }) refl (omega arith) few)
-
-few_shown : (bound n : ℕ) (c : Catalog) (number : ℕ) (reader : Option Reader) (loaded : Option Snapshot) (before now : Collections) → reader_at c number ≡ reader → 1 ≤ n → now.next ≤ bound + n → FewNumbers bound c.reading before
-    → FewNumbers (bound + n) (with_published c number reader loaded).reading now
-few_shown bound n c number (Some reader) (Some shown) before now there some le few =
-    few_one_more bound n (with_reloaded c number reader shown).reading before now some le
-    (few_published bound c.reading before _ number reader (record reader { next = reader.next + 1; shown = shown }) there refl refl few)
-few_shown bound n c number (Some reader) None before now there some le few = few_beside bound n c.reading before now le few
-few_shown bound n c number None loaded before now there some le few = few_beside bound n c.reading before now le few
-
-few_changed : (bound n : ℕ) (c : Catalog) (change : Change) (loaded : Option Snapshot) (before now : Collections) → numbers_by change ≤ n → now.next ≤ bound + n → FewNumbers bound c.reading before → FewNumbers (bound + n) (catalog_after c change loaded).reading now
-few_changed bound n c changes.Nothing loaded before now some le few = few_beside bound n c.reading before now le few
-few_changed bound n c (changes.Deletes id segment k) loaded before now some le few = few_beside bound n c.reading before now le few
-few_changed bound n c (changes.Release id) loaded before now some le few = few_beside bound n c.reading before now le few
-few_changed bound n c (changes.Reopen segments) loaded before now some le few = record { next_reader = omega arith; next_searcher = omega arith; next_collection = le; next_snapshots = tt }
-few_changed bound n c (changes.AddReader policy) loaded before now some le few = few_reading bound n c policy loaded before now some le few
-few_changed bound n c (changes.Publish number) loaded before now some le few = few_shown bound n c number (reader_at c number) loaded before now refl some le few
-
-few_after : (bound n : ℕ) (c : Catalog) (change : Change) (reply : Reply) (before now : Collections) → numbers_by change ≤ n → now.next ≤ bound + n → FewNumbers bound c.reading before → FewNumbers (bound + n) (settled c change reply).reading now
-few_after bound n c change (replies.Saved commit) before now some le few = few_beside bound n c.reading before now le few
-few_after bound n c change other before now some le few = few_changed bound n c change (loaded_by other) before now some le few
-
 -- what a change leaves
-reader_keeps : (c : Catalog) (policy : ReloadPolicy) (loaded : Option Snapshot) → (with_reader c policy loaded).commit ≡ c.commit
+reader_keeps : (c : Catalog) (policy : ReloadPolicy) (loaded : Option Snapshot) → (with_added c policy loaded).commit ≡ c.commit
 reader_keeps c policy None = refl
 reader_keeps c policy (Some shown) = refl
 
@@ -112,6 +76,18 @@ publish_keeps c number (Some reader) (Some shown) = refl
 publish_keeps c number (Some reader) None = refl
 publish_keeps c number None loaded = refl
 
+reload_keeps : (c : Catalog) (number : ℕ) (reader : Option Reader) (reload : Reload) → (with_reload c number reader reload).commit ≡ c.commit
+reload_keeps c number None reload = refl
+reload_keeps c number (Some reader) reload = refl
+
+kept_keeps : (c : Catalog) (number : ℕ) (loaded : Option Snapshot) → (with_kept c number loaded).commit ≡ c.commit
+kept_keeps c number None = refl
+kept_keeps c number (Some shown) = reload_keeps c number (reader_at c number) (Read shown.commit shown.bodies)
+
+delivered_keeps : (c : Catalog) (loaded : Option Snapshot) → (with_delivered c loaded).commit ≡ c.commit
+delivered_keeps c None = refl
+delivered_keeps c (Some shown) = refl
+
 pub commit_stays : (s : State) (change : Change) (reply : Reply) → (changed s change reply).catalog.commit ≡ s.catalog.commit
 commit_stays s changes.Nothing reply = refl
 commit_stays s (changes.Deletes id segment n) reply = refl
@@ -119,6 +95,10 @@ commit_stays s (changes.Release id) reply = refl
 commit_stays s (changes.Reopen segments) reply = refl
 commit_stays s (changes.AddReader policy) reply = reader_keeps s.catalog policy (loaded_by reply)
 commit_stays s (changes.Publish number) reply = publish_keeps s.catalog number (reader_at s.catalog number) (loaded_by reply)
+commit_stays s (changes.Note number commit) reply = reload_keeps s.catalog number (reader_at s.catalog number) (Locked commit)
+commit_stays s (changes.Keep number) reply = kept_keeps s.catalog number (loaded_by reply)
+commit_stays s changes.Deliver reply = delivered_keeps s.catalog (loaded_by reply)
+commit_stays s (changes.EndReader number) reply = refl
 
 changed_holds : {O : Type 0} (reads : Reads) (files : FilesState O) (now : State) (change : Change) (reply : Reply) (catalog : Catalog) → catalog ≡ catalog_after now.catalog change (loaded_by reply) → AllByRecursion IsSegment (changed now change reply).catalog.live
     → Holds reads (kept_of now.catalog files) now → Holds reads (kept_of catalog files) (changed now change reply)
@@ -203,6 +183,9 @@ settled_is s (actions.End number) change reply c collections managed is beside g
 settled_is s (actions.Validate names) change reply c collections managed is beside (inl (damaged, short, e)) = rw (e, is) refl
 settled_is s (actions.Validate names) change reply c collections managed is beside (inr (name, among, e)) = rw (e, is) refl
 settled_is s (actions.Load generation) change reply c collections managed is beside (shown, e) = rw (e, is) refl
+settled_is s actions.Lock change reply c collections managed is beside gives = rw (gives, is) refl
+settled_is s (actions.Read commit) change reply c collections managed is beside (shown, e) = rw (e, is) refl
+settled_is s actions.Unlock change reply c collections managed is beside gives = rw (gives, is) refl
 settled_is s actions.Reopen change reply c collections managed is beside gives = rw (gives, is) refl
 
 -- a change goes with such an action
@@ -225,38 +208,32 @@ saves_at (events.Commit payload ids) form old new s action change reply deletes 
     saved_commit form old new s (commit_step s payload ids).1 reply (subst (λ (c : Change). settled s.catalog c reply ≡ (commit_step s payload ids).1.catalog) none is) (stays_or_next s payload ids) saves other
 saves_at event form old new s action change reply deletes beside is saves = tt
 
--- a cause by a lock and by what is spent, said of others
-pub locking_as : {busy spent b s : Type 0} (refused quiet : Type 0) → (busy → b) → (spent → s) → (error : TantivyError) → LockingCause busy refused quiet spent error → LockingCause b refused quiet s error
-locking_as refused quiet f k (errors.LockFailure lock.LockBusy text) h = (f h.0, h.1)
-locking_as refused quiet f k (errors.LockFailure (lock.IoError fault) text) h = h
-locking_as refused quiet f k (errors.LockFailure lock.Memory text) h = absurd h.0
-locking_as refused quiet f k (errors.IoError fault) h = h
-locking_as refused quiet f k (errors.OpenWriteError why) h = h
-locking_as refused quiet f k errors.Exhausted h = (h.0, k h.1)
-locking_as refused quiet f k errors.Memory h = h
-locking_as refused quiet f k other h = absurd h
-
 module _ {O W C : Type 0} (g : Ghosts O W C) (catalog : Catalog) (standing : Standing) (first : FilesState O) (event : Event) where
   abbrev Old : StoreState O
   Old = store_of catalog first standing
 
   -- why it failed: a file that is to be read isn't only where the lock was free
   abbrev Why : StoreState O → TantivyError → Type 0
-  Why new error = (g.told.locks → IsReadError error → (g.view first.outside).locks meta_lock_name ≡ false) × ActCause g Old new event error
+  Why new error = (g.told.locks → TakesMetaLock catalog event → IsReadError error → (g.view first.outside).locks meta_lock_name ≡ false) × ActCause g Old new event error
+
+  -- an event that loads a commit reads its files
+  reads_of : (e : Event) → LoadsCommit catalog e → ReadsFiles catalog e
+  reads_of (events.ReloadOpen number) h = absurd h
+  reads_of other h = h
 
   -- for causes without a read
   by_lock : (new : StoreState O) (error : TantivyError)
       → (let facts = event_facts g (IsExhausted Old.kept event) Old new event in LockingCause facts.busy facts.refused facts.quiet (IsExhausted Old.kept event) error) → Why new error
   by_lock new error why =
       let facts = event_facts g (IsExhausted Old.kept event) Old new event in (
-        λ told. locks_none (List ℕ) facts.busy facts.refused facts.quiet (IsExhausted Old.kept event) _ (Err error) why,
+        λ told takes. locks_none (List ℕ) facts.busy facts.refused facts.quiet (IsExhausted Old.kept event) _ (Err error) why,
         locking_cause facts (IsExhausted Old.kept event) (UnloadedAt g Old new event) error why (λ e. e),
       )
 
   -- an error that came so far, with what is kept
   stopped : (new : StoreState O) (error : TantivyError) → ((bound : ℕ) → AtMost bound Old.kept → AtMost (bound + written_by event) new.kept) → Why new error
       → LeavesStep g Old new event (Err error) → (g.told.content → KeepsDotted (g.view first.outside).reads (g.view new.outside).reads)
-      → new.kept.form ≡ first.form → new.standing ≡ standing → Passes g.told event false false (g.view first.outside) (g.view new.outside)
+      → new.kept.form ≡ first.form → new.standing ≡ standing → Passes g.told event (is_busy catalog) (is_busy new.kept.catalog) (g.view first.outside) (g.view new.outside)
       → Acts g Old new event (Err error)
   stopped new error lens why leaves dotted form stands passes = record {
     step = tt;
@@ -289,16 +266,16 @@ module _ {O W C : Type 0} (g : Ghosts O W C) (catalog : Catalog) (standing : Sta
       (record {
         goes_on = goes_on_itself g.told (g.view first.outside);
         heard = refl;
-        locks = λ t. keeps_same false false (g.view first.outside).locks (g.view first.outside).locks refl (λ n. refl);
+        locks = λ t. keeps_same (is_busy catalog) (is_busy catalog) (g.view first.outside).locks (g.view first.outside).locks refl (λ n. refl);
         watched = quiet_notes event (g.view first.outside).watched;
       })
 
   -- what only reads passes for an event
-  passes_by : (action : Action) (next new : View W) → OnlyReads g.told (g.view first.outside) next → KeepsBy g.told action next new → ((old now : _) → MayNoteBy action old now → MayNoteAt event old now) → Passes g.told event false false (g.view first.outside) new
-  passes_by action next new asked h notes = record {
+  passes_by : (action : Action) (was now : Bool) (next new : View W) → OnlyReads g.told (g.view first.outside) next → KeepsBy g.told action was now next new → ((old now : _) → MayNoteBy action old now → MayNoteAt event old now) → Passes g.told event was now (g.view first.outside) new
+  passes_by action was now next new asked h notes = record {
     goes_on = goes_then asked.kept.frame.tells_none.deletes_none.goes_on h.goes_on;
     heard = h.heard ∙ asked.kept.frame.tells_none.heard;
-    locks = λ t. keeps_same false false (g.view first.outside).locks new.locks refl (λ n. h.locks t n ∙ asked.kept.frame.locks t n);
+    locks = λ t. then_keeps was now (g.view first.outside).locks next.locks new.locks (asked.kept.frame.locks t) (h.locks t);
     watched = notes (g.view first.outside).watched new.watched (subst (λ w. MayNoteBy action w new.watched) asked.kept.watched h.watched);
   }
 
@@ -329,11 +306,11 @@ module _ {O W C : Type 0} (g : Ghosts O W C) (catalog : Catalog) (standing : Sta
     unnoted (actions.Save commit text required) w = inl refl
     unnoted other w = refl
 
-    asked_passes : Passes g.told event false false (g.view first.outside) (g.view next.outside)
+    asked_passes : Passes g.told event (is_busy catalog) (is_busy catalog) (g.view first.outside) (g.view next.outside)
     asked_passes = record {
       goes_on = below.kept.frame.tells_none.deletes_none.goes_on;
       heard = below.kept.frame.tells_none.heard;
-      locks = λ t. keeps_same false false (g.view first.outside).locks (g.view next.outside).locks refl (below.kept.frame.locks t);
+      locks = λ t. keeps_same (is_busy catalog) (is_busy catalog) (g.view first.outside).locks (g.view next.outside).locks refl (below.kept.frame.locks t);
       watched = noted_by event planned.action plans.saves (g.view first.outside).watched (g.view next.outside).watched
           (subst (λ w. MayNoteBy planned.action (g.view first.outside).watched w) (sym below.kept.watched) (unnoted planned.action (g.view first.outside).watched));
     }
@@ -349,8 +326,17 @@ module _ {O W C : Type 0} (g : Ghosts O W C) (catalog : Catalog) (standing : Sta
       lens_of p c bound h =
           longer last.open_files (bound + added_by planned.action) (bound + written_by event) (omega (arith, plans.adds)) (p.lens bound (subst (AtMost bound) (sym kept) h))
 
-      passed : {result : Result Reply TantivyError} → Performs g planned.action next last result → Passes g.told event false false (g.view first.outside) (g.view last.outside)
-      passed p = passes_by planned.action (g.view next.outside) (g.view last.outside) below p.frame (noted_by event planned.action plans.saves)
+      passed : {result : Result Reply TantivyError} → Performs g planned.action next last result → Passes g.told event next.locked last.locked (g.view first.outside) (g.view last.outside)
+      passed p = passes_by planned.action next.locked last.locked (g.view next.outside) (g.view last.outside) below p.frame (noted_by event planned.action plans.saves)
+
+      -- the same, said of whether a reload waits for its files
+      passed_as : {result : Result Reply TantivyError} (now : Bool) → next.locked ≡ is_busy catalog → last.locked ≡ now → Performs g planned.action next last result → Passes g.told event (is_busy catalog) now (g.view first.outside) (g.view last.outside)
+      passed_as now was is p =
+          subst (λ b. Passes g.told event (is_busy catalog) b (g.view first.outside) (g.view last.outside)) is (subst (λ b. Passes g.told event b last.locked (g.view first.outside) (g.view last.outside)) was (passed p))
+
+      -- what its action did to the lock
+      pub kept_lock : {reply : Reply} → next.locked ≡ is_busy catalog → Performs g planned.action next last (Ok reply) → last.locked ≡ keeps_lock planned.action (is_busy catalog)
+      kept_lock was p = p.keeps ∙ ap (keeps_lock planned.action) was
 
       -- the step of the event, by what came of its action
       pub stepped : (s : State) → Holds (g.view first.outside).reads (kept_of catalog first) s → (deletes : List Bool) (reply : Reply) → reply ≡ reply_in s planned.action deletes
@@ -371,10 +357,11 @@ module _ {O W C : Type 0} (g : Ghosts O W C) (catalog : Catalog) (standing : Sta
           changed_holds (g.view last.outside).reads last (after s planned.action reply) planned.change reply (settled catalog planned.change reply) (known_after s reply held gives) (plans.segments s (in_memory s held) reply) did.held
 
       -- why its action failed
-      why_failed : (action : Action) (error : TantivyError) → LoadsFor (kept_of catalog first) event action → (LocksMeta action → TakesMetaLock catalog event) → (SpentBy next.collections action → IsExhausted Old.kept event)
+      why_failed : (action : Action) (error : TantivyError) → LoadsFor (kept_of catalog first) event action → (LocksMeta action → TakesMetaLock catalog event) → (TakesMetaLock catalog event → LocksMeta action)
+          → ((s : State) → InMemory (kept_of catalog first) s → Suits s action) → (SpentBy next.collections action → IsExhausted Old.kept event)
           → FailsBy g action next last (Err error) → Why (store_of catalog last standing) error
-      why_failed (actions.Load generation) error loads locks spends h = (
-        λ told read. sym (below.kept.frame.locks told meta_lock_name) ∙ h.faults.reads told read,
+      why_failed (actions.Load generation) error loads locks unlocked suits spends h = (
+        λ told takes read. sym (below.kept.frame.locks told meta_lock_name) ∙ h.faults.reads told read,
         loading_weaker (record (loading_facts g next last) { busy = IsBusy g.told.locks ((g.view next.outside).locks meta_lock_name ≡ true) (Rose (g.view next.outside).faults (g.view last.outside).faults) })
             (event_facts g (IsExhausted Old.kept event) Old (store_of catalog last standing) event)
             (UnloadedFor g next.form.schema next.outside last.outside) (UnloadedAt g Old (store_of catalog last standing) event) error
@@ -384,32 +371,63 @@ module _ {O W C : Type 0} (g : Ghosts O W C) (catalog : Catalog) (standing : Sta
               unloaded_before g first.form.schema next.form.schema first.outside next.outside last.outside last.outside e (ap (λ f. f.schema) asked.managed.form) (λ t. sym (below.content t meta_name))
                   (λ rose. subst (λ (n : ℕ). Rose n (g.view last.outside).faults) same rose) (λ still. still ∙ same) load,
             ))
-            (λ e bad. (loads.0, λ t s held whole. (s.catalog.commit, loads.1 s (in_memory s held), bad t s (files_hold t s held) whole)))
-            (λ path none. (loads.0, λ t s held whole. none t s (files_hold t s held) whole)) h.faults.cause,
+            (λ e bad. (reads_of event loads.0, λ t s held whole. (s.catalog.commit, loads.1 s (in_memory s held), bad t s (files_hold t s held) whole)))
+            (λ path none. (reads_of event loads.0, λ t s held whole. none t s (files_hold t s held) whole)) h.faults.cause,
       )
-      why_failed other error loads locks spends h =
+      why_failed (actions.Read commit) error loads locks unlocked suits spends h = (
+        λ told takes read. absurd (unlocked takes),
+        loading_of (event_facts g (IsExhausted Old.kept event) Old (store_of catalog last standing) event) (UnloadedAt g Old (store_of catalog last standing) event) error
+            (cause_weaker (reading_facts (Rose (g.view next.outside).faults (g.view last.outside).faults) ((g.view last.outside).faults ≡ (g.view next.outside).faults) (LacksFileOf g next commit) (λ path. HoldNoneWith g next commit))
+            (event_facts g (IsExhausted Old.kept event) Old (store_of catalog last standing) event) error
+            (λ never. absurd never) (λ rose. subst (λ (n : ℕ). Rose n (g.view last.outside).faults) same rose) (λ still. still ∙ same) (λ never. absurd never)
+            (λ e bad. (loads.0, λ t s held whole. (commit, loads.1 s (in_memory s held), bad t s (files_hold t s held) whole (suits s (in_memory s held)))))
+            (λ path none. (loads.0, λ t s held whole. none t s (files_hold t s held) whole (suits s (in_memory s held)))) h.cause),
+      )
+      why_failed other error loads locks unlocked suits spends h =
           by_lock (store_of catalog last standing) error
           (locking_as _ _ (λ b. (locks b.0, record { told = λ t. sym (below.kept.frame.locks t meta_lock_name) ∙ b.1.told t; untold = b.1.untold })) spends error
           (subst (λ (n : ℕ). LockingCause (LocksMeta other × IsBusy g.told.locks ((g.view next.outside).locks meta_lock_name ≡ true) (Rose n (g.view last.outside).faults)) (Rose n (g.view last.outside).faults) ((g.view last.outside).faults ≡ n) (SpentBy next.collections other) error) same h))
 
       -- what it reads can be read
-      reads_good : (action : Action) (s : State) (reply : Reply) → LoadsFor (kept_of catalog first) event action → Holds (g.view first.outside).reads (kept_of catalog first) s → IsWhole s → FailsBy g action next last (Ok reply) → g.told.content
+      reads_good : (action : Action) (s : State) (reply : Reply) → LoadsFor (kept_of catalog first) event action → Holds (g.view first.outside).reads (kept_of catalog first) s → IsWhole s → Suits s action → FailsBy g action next last (Ok reply) → g.told.content
           → ReadsGood s event
-      reads_good (actions.Load generation) s reply loads held whole h tells =
-          subst (λ (o : Option Commit). IfSome o (λ commit. AreGoodFiles s (all_required commit.segments))) (sym (loads.1 s (in_memory s held))) (h.readable tells s (files_hold tells s held) whole).0
-      reads_good other s reply loads held whole h tells = subst (λ (o : Option Commit). IfSome o (λ commit. AreGoodFiles s (all_required commit.segments))) (sym (loads s (in_memory s held))) tt
+      reads_good (actions.Load generation) s reply loads held whole suits h tells =
+          subst (λ (o : Option Commit). IfSome o (λ commit. AreGoodFiles s (all_required commit.segments))) (sym (loads.1 s (in_memory s held))) (h.readable tells s (files_hold tells s held) whole)
+      reads_good (actions.Read noted) s reply loads held whole suits h tells =
+          subst (λ (o : Option Commit). IfSome o (λ commit. AreGoodFiles s (all_required commit.segments))) (sym (loads.1 s (in_memory s held))) (h.readable tells s (files_hold tells s held) whole suits)
+      reads_good other s reply loads held whole suits h tells = subst (λ (o : Option Commit). IfSome o (λ commit. AreGoodFiles s (all_required commit.segments))) (sym (loads s (in_memory s held))) tt
+
+      -- nor did settling it, which changed nothing
+      pub lock_unsettled : (c : Catalog) (reply : Reply) → next.locked ≡ is_busy catalog → c ≡ catalog → (TakesNoMemory planned.change → ⊥) → Performs g planned.action next last (Ok reply) → last.locked ≡ is_busy c
+      lock_unsettled c reply locked stays unsure p = kept_lock locked p ∙ settles plans.sure ∙ ap is_busy (sym stays) where
+        settles : (keeps_lock planned.action (is_busy catalog) ≡ is_busy catalog) ⊎ TakesNoMemory planned.change → keeps_lock planned.action (is_busy catalog) ≡ is_busy catalog
+        settles (inl same) = same
+        settles (inr sure) = absurd (unsure sure)
+
+      -- or it is held as what is known says
+      pub lock_settled : (reply : Reply) → next.locked ≡ is_busy catalog → Performs g planned.action next last (Ok reply) → last.locked ≡ is_busy (settled catalog planned.change reply)
+      lock_settled reply locked p =
+          kept_lock locked p
+          ∙ sym (plans.keeps reply (subst (λ k. MayGive k.collections k.managed planned.action reply) kept p.gives))
+          ∙ sym (settled_busy catalog planned.action planned.change reply next.collections next.managed (beside_of event planned.action planned.change plans.beside) p.gives)
+
+      -- so in any case, whether settling it succeeded or not
+      pub lock_after : {A E : Type 0} (c : Catalog) (reply : Reply) → next.locked ≡ is_busy catalog → Performs g planned.action next last (Ok reply)
+          → (settling : Result A E) → OnOk settling (c ≡ settled catalog planned.change reply) → OnErr settling (c ≡ catalog) → (TakesNoMemory planned.change → IfErr settling (λ error. ⊥)) → last.locked ≡ is_busy c
+      lock_after c reply locked p (Ok done) is stays sure = lock_settled reply locked p ∙ ap is_busy (sym is)
+      lock_after c reply locked p (Err error) is stays sure = lock_unsettled c reply locked stays sure p
 
       -- its action wasn't performed
-      pub unperformed : (error : TantivyError) → Performs g planned.action next last (Err error) → Acts g Old (store_of catalog last standing) event (Err error)
-      unperformed error p =
+      pub unperformed : (error : TantivyError) → next.locked ≡ is_busy catalog → Performs g planned.action next last (Err error) → Acts g Old (store_of catalog last standing) event (Err error)
+      unperformed error locked p =
           let new = store_of catalog last standing in
           stopped new error (lens_of p catalog)
-          (why_failed planned.action error plans.loads plans.locks (λ spent. plans.spends (subst (λ c. SpentBy c planned.action) (ap (λ k. k.collections) kept) spent)) p.faults.cause)
+          (why_failed planned.action error plans.loads plans.locks plans.unlocked plans.suits (λ spent. plans.spends (subst (λ c. SpentBy c planned.action) (ap (λ k. k.collections) kept) spent)) p.faults.cause)
           (record {
             meta = λ tells s held whole. ([], left tells s held (p.meta.failed tells s (files_hold tells s held) whole (plans.suits s (in_memory s held)) []));
             memory = λ tells wanted. p.meta.memory tells wanted ∙ below.content tells meta_name;
           })
-          (λ tells n dot other. p.dotted tells n dot other ∙ below.content tells n) (p.form ∙ asked.managed.form) refl (passed p) where
+          (λ tells n dot other. p.dotted tells n dot other ∙ below.content tells n) (p.form ∙ asked.managed.form) refl (passed_as (is_busy catalog) locked (p.stays ∙ locked) p) where
             left : g.told.content → (s : State) → Holds (g.view first.outside).reads (kept_of catalog first) s
                 → LeavesCommit (Rose (g.view next.outside).faults (g.view last.outside).faults) ((g.view next.outside).reads meta_name) ((g.view last.outside).reads meta_name) next.form (after s planned.action (reply_in s planned.action [])).catalog.commit
                 → LeavesCommit (Rose (g.view first.outside).faults (g.view last.outside).faults) ((g.view first.outside).reads meta_name) ((g.view last.outside).reads meta_name) first.form (step s event []).1.catalog.commit
@@ -419,15 +437,15 @@ module _ {O W C : Type 0} (g : Ghosts O W C) (catalog : Catalog) (standing : Sta
                 rw (commit, ← same, ← asked.managed.form, ← below.content tells meta_name) h
 
       -- memory was wanted for what is known beside the files
-      pub unsettled : (c : Catalog) (reply : Reply) → Performs g planned.action next last (Ok reply) → SavedNone reply → Acts g Old (store_of c last standing) event (Err errors.Memory)
-      unsettled c reply p none =
+      pub unsettled : (c : Catalog) (reply : Reply) → next.locked ≡ is_busy catalog → c ≡ catalog → (TakesNoMemory planned.change → ⊥) → Performs g planned.action next last (Ok reply) → SavedNone reply → Acts g Old (store_of c last standing) event (Err errors.Memory)
+      unsettled c reply locked stays unsure p none =
           stopped (store_of c last standing) errors.Memory (lens_of p c) (by_lock (store_of c last standing) errors.Memory (p.faults.quiet ∙ same)) (kept_meta (store_of c last standing) errors.Memory (λ tells. p.meta.spared tells none ∙ below.content tells meta_name))
-          (λ tells n dot other. p.dotted tells n dot other ∙ below.content tells n) (p.form ∙ asked.managed.form) refl (passed p)
+          (λ tells n dot other. p.dotted tells n dot other ∙ below.content tells n) (p.form ∙ asked.managed.form) refl (passed_as (is_busy c) locked (lock_unsettled c reply locked stays unsure p) p)
 
       -- it was answered, and what is known beside the files was settled
-      pub answered : (reply : Reply) (answer : List ℕ) → Performs g planned.action next last (Ok reply) → answer ≡ line_of planned.line.items reply → length answer < (g.view last.outside).room
+      pub answered : (reply : Reply) (answer : List ℕ) → next.locked ≡ is_busy catalog → Performs g planned.action next last (Ok reply) → answer ≡ line_of planned.line.items reply → length answer < (g.view last.outside).room
           → Acts g Old (store_of (settled catalog planned.change reply) last standing) event (Ok answer)
-      answered reply answer p is fits = record {
+      answered reply answer locked p is fits = record {
         step = record {
           outcomes = p.performed.0;
           refused = subst (λ n. RoseBy (refused_in p.performed.0) n (g.view last.outside).refusals) below.kept.frame.tells_none.deletes_none.refusals p.performed.1;
@@ -442,12 +460,12 @@ module _ {O W C : Type 0} (g : Ghosts O W C) (catalog : Catalog) (standing : Sta
           quiet = p.faults.quiet ∙ same;
           free = λ told takes. sym (below.kept.frame.locks told meta_lock_name) ∙ p.faults.free told (plans.unlocked takes);
           fits = λ spent. p.faults.fits (subst (λ c. SpentBy c planned.action) (sym (ap (λ k. k.collections) kept)) (plans.fits spent));
-          reads = λ told. tt;
+          reads = λ told takes. tt;
           cause = tt;
         };
         leaves = record { meta = λ tells s held whole. tt; memory = λ tells. tt };
         dotted = λ tells n dot other. p.dotted tells n dot other ∙ below.content tells n;
-        frame = record { form = p.form ∙ asked.managed.form; standing = refl; below = passed p };
+        frame = record { form = p.form ∙ asked.managed.form; standing = refl; below = passed_as (is_busy (settled catalog planned.change reply)) locked (lock_settled reply locked p) p };
       } where
         new : StoreState O
         new = store_of (settled catalog planned.change reply) last standing
@@ -462,7 +480,7 @@ module _ {O W C : Type 0} (g : Ghosts O W C) (catalog : Catalog) (standing : Sta
             record {
               told = is ∙ sym (ap (λ (t : StepResult State). t.0) right);
               held = subst (λ (t : State). Holds (g.view last.outside).reads new.kept t) state (held_after s p.performed.0 reply held p.gives did);
-              readable = reads_good planned.action s reply plans.loads held whole p.faults.cause tells;
+              readable = reads_good planned.action s reply plans.loads held whole (plans.suits s (in_memory s held)) p.faults.cause tells;
               unchanged = λ by_step stays.
                   let alone : LeavesAlone (g.view next.outside) (g.view last.outside) =
                   ⊎_elim (λ nothing. did.same (plans.changes by_step) (sym (ap (λ (c : Change). changed now c reply) nothing) ∙ state ∙ stays)) (λ only. p.alone only tells) (beside_of event planned.action planned.change plans.beside) in

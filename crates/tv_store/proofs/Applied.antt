@@ -11,8 +11,8 @@ use Rattle.tv_formats.specs.Files.{Heard, Rose, RoseBy}
 use Rattle.tv_base.specs.declared.io.IoFault.{IoFault}
 use Rattle.tv_machine.specs.Machine.{catalog_step, step, refused_in}
 use Rattle.tv_formats.specs.Meaning.{Means}
-use Rattle.tv_machine.specs.declared.event.Event.{Event}
-use Rattle.tv_machine.specs.declared.event.Event.TheVariants as events
+use Rattle.tv_events.specs.declared.event.Event.{Event}
+use Rattle.tv_events.specs.declared.event.Event.TheVariants as events
 use Rattle.tv_catalog.specs.Kept.{KeptState}
 use Rattle.tv_store.specs.Kept.{Standing, StoreState, Holds, AtMost}
 use Rattle.tv_catalog.specs.ReaderNumbers.{FewNumbers}

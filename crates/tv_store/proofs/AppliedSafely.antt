@@ -15,7 +15,7 @@ use Rattle.tv_formats.specs.Commits.{IndexForm}
 use Rattle.tv_formats.specs.Disk.{possible_now}
 use Rattle.tv_machine.specs.Machine.{step}
 use Rattle.tv_machine.specs.State.{State}
-use Rattle.tv_machine.specs.declared.event.Event.{Event}
+use Rattle.tv_events.specs.declared.event.Event.{Event}
 use Rattle.tv_store.specs.Acting.{Acts}
 use Rattle.tv_store.specs.Durable.{ActsSafely, store_files}
 use Rattle.tv_store.specs.Kept.{IsHeld, StoreState}

@@ -67,7 +67,7 @@ reads_take_none read.Memory = tt
 module _ {O W : Type 0} {keeps more : View W → View W → Type 0} {view : O → View W} where
   managed_by : {old new : FilesState O} → (keeps (view old.outside) (view new.outside) → more (view old.outside) (view new.outside)) → KeepsFiles keeps view old new → KeepsFiles more view old new
   managed_by by h = record {
-    managed = record { form = h.managed.form; names = h.managed.names; collections = h.managed.collections; left = h.managed.left; below = by h.managed.below };
+    managed = record { form = h.managed.form; locked = h.managed.locked; names = h.managed.names; collections = h.managed.collections; left = h.managed.left; below = by h.managed.below };
     open_files = h.open_files;
   }
 
@@ -77,6 +77,7 @@ module _ {O W : Type 0} {keeps more : View W → View W → Type 0} {view : O �
   files_then both first second = record {
     managed = record {
       form = second.managed.form ∙ first.managed.form;
+      locked = second.managed.locked ∙ first.managed.locked;
       names = second.managed.names ∙ first.managed.names;
       collections = second.managed.collections ∙ first.managed.collections;
       left = second.managed.left ∙ first.managed.left;
@@ -88,7 +89,7 @@ module _ {O W : Type 0} {keeps more : View W → View W → Type 0} {view : O �
 -- none was made
 pub files_same : {O W : Type 0} (told : ToldParts) (view : O → View W) (files : FilesState O) → KeepsFiles (OnlyReads told) view files files
 files_same told view files = record {
-  managed = record { form = refl; names = refl; collections = refl; left = refl; below = record { kept = kept_itself told (view files.outside); content = λ t n. refl } };
+  managed = record { form = refl; locked = refl; names = refl; collections = refl; left = refl; below = record { kept = kept_itself told (view files.outside); content = λ t n. refl } };
   open_files = refl;
 }
 

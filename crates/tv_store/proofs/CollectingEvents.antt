@@ -5,7 +5,7 @@ use Rattle.tv_formats.specs.Files.{Reads, Same}
 use Rattle.tv_formats.specs.Listing.{Listing}
 use Rattle.tv_machine.specs.Living.{living}
 use Rattle.tv_formats.specs.Collections.{Collection, Collections, collectable, collection_at, having_tried, held, with_begun, with_collection, without, without_collection}
-use Rattle.tv_machine.specs.CollectionEvents.{ended, garbage, gc_begin_step, having_deleted}
+use Rattle.tv_machine.specs.CollectionEvents.{ended, garbage, having_deleted}
 use Rattle.tv_machine.specs.State.{Catalog, State, FileState}
 use Rattle.tv_formats.proofs.CollectedNames.{has_without}
 use Rattle.tv_device.specs.declared.directory.Directory.{Ghosts}
@@ -46,7 +46,7 @@ module _ {O W C : Type 0} (g : Ghosts O W C) (catalog : Catalog) (old new : File
         ∙ ap (with_begun s.collections) (takes_garbage g catalog old new made s needed h needs)
 
     pub begun_holds : Same (g.view old.outside).reads (g.view new.outside).reads → new ≡ record old { outside = new.outside; collections = new.collections }
-        → Holds (g.view new.outside).reads (kept_of catalog new) (gc_begin_step s).1
+        → Holds (g.view new.outside).reads (kept_of catalog new) (record s { collections = with_begun s.collections (garbage s) })
     begun_holds same rest =
         subst (λ (c : Collections). Holds (g.view new.outside).reads (kept_of catalog new) (record s { collections = c })) begun_are
         (same_holds (g.view old.outside).reads (g.view new.outside).reads (record (kept_of catalog old) { collections = new.collections }) (kept_of catalog new) (record s { collections = new.collections }) same

@@ -7,7 +7,7 @@ use Rattle.tv_formats.specs.Listing.{IsListFile, Listing}
 use Rattle.tv_formats.specs.Collections.{Collections, done_of, failed_of, collectable, held, without}
 use Rattle.tv_machine.specs.Living.{living}
 use Rattle.tv_machine.specs.State.{Catalog, State, FileState, SealedFile, Open, Left, file_at}
-use Rattle.tv_machine.specs.CollectionEvents.{garbage, without_files, collected_line, gc_step, left, with_left}
+use Rattle.tv_machine.specs.CollectionEvents.{garbage, without_files, left, with_left}
 use Rattle.tv_machine.specs.Machine.{refused_in}
 use Rattle.tv_formats.specs.Meaning.{Means}
 use Rattle.tv_formats.specs.Commits.{Commit, IsSegment, IndexForm}
@@ -115,19 +115,16 @@ module _ {O W C : Type 0} (g : Ghosts O W C) (catalog : Catalog) (old new : File
       ∙ same_collectable (needed ++ held old.collections) (living s.catalog ++ held s.collections) s.managed
       (same_needs needed old.collections s.collections s.catalog h.collections (λ n. needs n ∙ ap (λ (c : Catalog). has (living c) n) h.catalog))
 
-  -- the step of a collection
+  -- the state after a collection
   pub collected : (needed deleted failed : List (List ℕ)) → g.told.content → Holds (g.view old.outside).reads (kept_of catalog old) s → ((n : List ℕ) → has needed n ≡ has (living catalog) n)
       → (told : Collects g needed old new deleted failed) → (Listing (g.view old.outside).reads old.managed → Listing (g.view new.outside).reads new.managed)
-      → (collected_line deleted failed ≡ (gc_step s told.tried.outcomes).0) × Holds (g.view new.outside).reads (kept_of catalog new) (gc_step s told.tried.outcomes).1
+      → Holds (g.view new.outside).reads (kept_of catalog new) (without_files s (done_of (garbage s) told.tried.outcomes))
   collected needed deleted failed tells h needs told list =
       let outcomes = told.tried.outcomes in
       let all : collectable (needed ++ held old.collections) old.managed ≡ garbage s = takes_garbage needed h needs in
       let done : deleted ≡ done_of (garbage s) outcomes = told.tried.deleted_is ∙ ap (λ (ns : List (List ℕ)). done_of ns outcomes) all in
-      let not_done : failed ≡ failed_of (garbage s) outcomes = told.tried.failed_is ∙ ap (λ (ns : List (List ℕ)). failed_of ns outcomes) all in
-      let spared : has deleted meta_name ≡ false = ap (λ (ns : List (List ℕ)). has ns meta_name) done ∙ living_spared s outcomes meta_name (meta_living s) in (
-        ap (λ (ns : List (List ℕ)). collected_line ns failed) done ∙ ap (λ (ns : List (List ℕ)). collected_line (done_of (garbage s) outcomes) ns) not_done,
-        subst (λ (ns : List (List ℕ)). Holds (g.view new.outside).reads (kept_of catalog new) (without_files s ns)) done (collected_holds needed deleted failed tells h spared told list),
-      )
+      let spared : has deleted meta_name ≡ false = ap (λ (ns : List (List ℕ)). has ns meta_name) done ∙ living_spared s outcomes meta_name (meta_living s) in
+      subst (λ (ns : List (List ℕ)). Holds (g.view new.outside).reads (kept_of catalog new) (without_files s ns)) done (collected_holds needed deleted failed tells h spared told list)
 
   -- and the state with this catalog, after the open ones of some files were left
   pub left_holds : (names : List (List ℕ)) (after : Catalog) → Holds (g.view old.outside).reads (kept_of catalog old) s → AllByRecursion IsSegment after.live → after.commit ≡ s.catalog.commit

@@ -1,6 +1,6 @@
 -- What follows of crashes for the laws.
-use Rattle.std.proofs.Common.{◌≡◌, ◌≢◌, ◌≤◌, ℕ, Bool, List, [], ◌∷◌, Result, Ok, Err, true, false, true≢false, refl, sym, ap, subst, ◌∙◌, inl, inr, ⊎_elim}
-use Rattle.std.specs.Prelude.{IfErr, IfOk, MatchResult, OnErr}
+use Rattle.std.proofs.Common.{◌≡◌, ◌≢◌, ℕ, Bool, List, Result, Ok, Err, true, false, sym, subst, ⊎_elim}
+use Rattle.std.specs.Prelude.{IfErr, IfOk, MatchResult}
 use Rattle.tv_base.specs.declared.error.TantivyError.{TantivyError}
 use Rattle.tv_base.specs.declared.error.TantivyError.TheVariants as errors
 use Rattle.tv_crashes.proofs.OpeningImages.{kept_by_opening}
@@ -8,12 +8,10 @@ use Rattle.tv_crashes.proofs.RunsTold.{survives}
 use Rattle.tv_crashes.proofs.StoredImages.{fewer_safe, shows}
 use Rattle.tv_crashes.proofs.StoredSound.{shown_sound}
 use Rattle.tv_crashes.specs.Stored.{IsFromStart, IsSafe, ShowsEither, ShowsWhole, Stored, stored_of}
-use Rattle.tv_device.specs.Calls.{Frees}
 use Rattle.tv_device.specs.Images.{KeepsDisk, StandsNow}
 use Rattle.tv_device.specs.View.{Told, View}
 use Rattle.tv_device.specs.declared.directory.Directory.{Ghosts}
-use Rattle.tv_formats.proofs.Entries.{is_itself, is_text}
-use Rattle.tv_formats.specs.Disk.{Disk, IsImage, MayLeave, Possible, Throughout, possible_now}
+use Rattle.tv_formats.specs.Disk.{Disk, IsImage, Possible, Throughout, possible_now}
 use Rattle.tv_formats.specs.Names.{is, meta_name}
 use Rattle.tv_formats.specs.Schemas.{stripped}
 use Rattle.tv_formats.specs.Files.{Reads}
@@ -25,12 +23,15 @@ use Rattle.tv_index.specs.Opening.{first_text}
 use Rattle.tv_machine.specs.Machine.{step}
 use Rattle.tv_machine.specs.SoundStates.{IsSoundState}
 use Rattle.tv_machine.specs.State.{State}
-use Rattle.tv_machine.specs.declared.event.Event.{Event}
+use Rattle.tv_events.specs.declared.event.Event.{Event}
 use Rattle.tv_managed.specs.declared.managed_directory.Refused.{Refused}
 use Rattle.tv_store.proofs.OpenedSafely.{at_each, new_index}
 use Rattle.tv_store.specs.CrashLaws.{KeepsStored, SurvivesTurn}
 use Rattle.tv_store.specs.Kept.{IsHeld, StoreState}
 use Rattle.tv_store.specs.Opening.{Opens, OpensSafely}
+use Rattle.tv_store.proofs.FreedLocks.{all_free}
+use Rattle.tv_managed.specs.Collecting.{meta_lock_name}
+use Rattle.tv_store.specs.ReloadLocks.{FreesLocks}
 use Rattle.tv_store.specs.StoreCauses.{writer_lock_name}
 use Rattle.tv_store.specs.Surviving.{AppliesSafely, SurvivesOpening}
 
@@ -62,20 +63,12 @@ image_sound form before after possible image sound_before sound_after safe is =
 
 -- and so is the directory of a store that is closed
 pub closed_sound : {W : Type 0} (form : IndexForm) (before after : State) (told : Told) (old new : View W) (old_disk new_disk : Disk) → told.locks → IsSoundState before → IsSoundState after
-    → IsSafe (stored_of form before) (stored_of form after) (possible_now old_disk) → KeepsDisk old_disk new_disk → Frees told writer_lock_name old new → ((lock : List ℕ) → lock ≢ writer_lock_name → old.locks lock ≡ false)
-    → IsSoundDirectory form.schema new_disk new.locks
-closed_sound form before after told old new old_disk new_disk tells sound_before sound_after safe keeps frees others =
-    let freed = frees.freed tells in
-    record {
-      images = λ image is. image_sound form before after (possible_now new_disk) image sound_before sound_after (fewer_safe _ _ _ _ keeps.states.possible.no_more safe) is;
-      free = λ n.
-          elim (is writer_lock_name n) as (λ b. is writer_lock_name n ≡ b → new.locks n ≡ false) [
-            | true ↦ λ same. subst (λ (m : List ℕ). new.locks m ≡ false) (is_text writer_lock_name n same) freed.is_free
-            | false ↦ λ other.
-                let isnt : n ≢ writer_lock_name = λ e. absurd (true≢false (sym (subst (λ (m : List ℕ). is writer_lock_name m ≡ true) (sym e) (is_itself writer_lock_name)) ∙ other)) in
-                freed.others n isnt ∙ others n isnt
-          ] refl;
-    }
+    → IsSafe (stored_of form before) (stored_of form after) (possible_now old_disk) → KeepsDisk old_disk new_disk → (was : Bool) → FreesLocks told writer_lock_name was old new
+    → ((lock : List ℕ) → lock ≢ writer_lock_name → (was ≡ true → lock ≢ meta_lock_name) → old.locks lock ≡ false) → IsSoundDirectory form.schema new_disk new.locks
+closed_sound form before after told old new old_disk new_disk tells sound_before sound_after safe keeps was frees others = record {
+  images = λ image is. image_sound form before after (possible_now new_disk) image sound_before sound_after (fewer_safe _ _ _ _ keeps.states.possible.no_more safe) is;
+  free = all_free told was old new tells frees others;
+}
 
 -- an opening takes no stored commit away
 pub opening_keeps : {O W C : Type 0} (g : Ghosts O W C) (outside : O) (schema : List ℕ) (content : g.told.content) (stands : (d : O) → StandsNow (g.view d) (g.disk d)) (sound : IsSoundDirectory (stripped schema) (g.disk outside) (g.view outside).locks)

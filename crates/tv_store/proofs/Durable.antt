@@ -1,7 +1,7 @@
 -- Files that a crash can't hurt, and how they go on so.
-use Rattle.std.proofs.Common.{◌≡◌, ◌⊎◌, ℕ, true, List, Option, None, Some, Result, Ok, Err, append-nil, is_some, refl, sym, ap, subst, ◌∙◌, inl, inr, ⊎_elim, arith}
+use Rattle.std.proofs.Common.{◌≡◌, ◌⊎◌, ℕ, true, List, Some, Result, Ok, Err, append-nil, is_some, refl, sym, ap, subst, ◌∙◌, inl, inr, ⊎_elim, arith}
 use Rattle.std.proofs.lemmas.Result.{IfOk-weaker}
-use Rattle.std.specs.Prelude.{◌∷◌, [], IfOk, OnOk, option_map}
+use Rattle.std.specs.Prelude.{◌∷◌, [], IfOk, OnOk}
 use Rattle.std.specs.List.{flat_map}
 use Rattle.tv_base.specs.declared.error.TantivyError.{TantivyError}
 use Rattle.tv_crashes.specs.Stored.{HasOneState, IsSafe, IsStored, Requires, StateMeans, sealed_bytes, stored_of}
@@ -26,7 +26,7 @@ use Rattle.tv_machine.proofs.CollectionStates.{required_living}
 use Rattle.tv_machine.proofs.HeldStates.{living_parts}
 use Rattle.tv_machine.specs.Index.{IsFileOf}
 use Rattle.tv_machine.specs.Living.{living}
-use Rattle.tv_machine.specs.State.{Catalog, FileState, Left, Open, SealedFile, State, file_at}
+use Rattle.tv_machine.specs.State.{Catalog, SealedFile, State, file_at}
 use Rattle.tv_managed.specs.Crashes.{AreListed, IsTracked, KeepsTrack}
 use Rattle.tv_managed.specs.TrackLaws.{listed_read, track_read}
 use Rattle.tv_catalog.specs.Actions.{after}
@@ -218,10 +218,15 @@ module _ {O W C : Type 0} (g : Ghosts O W C) (files : FilesState O) (s : State) 
 
   -- ---- actions that only ask
 
-  -- the disk was only read
+  -- the disk was only read, and the names that are kept stay
+  pub disk_stays : (action : Action) (new : FilesState O) (result : Result Reply TantivyError) → new.form ≡ files.form → (names_below new).1 ≡ (names_below files).1
+      → KeepsDisk (g.disk files.outside) (g.disk new.outside) → IfOk result (λ reply. KeepsSealed s (after s action reply)) → LeavesStored g action files new s result
+  disk_stays action new result made names keeps same =
+      stores_on action new result (Within (possible_now (g.disk files.outside))) made (track_read g names keeps d.tracked) (on_ok result (listed_read g (names_below files) (names_below new) names keeps d.listed))
+      (within_step keeps.time keeps.states.possible.no_more) (λ p within n needs t is. within.each n t is) (λ n bytes needed file now. keeps.states.now n ∙ now) same
+
+  -- nor did anything else change
   pub asked_stored : (action : Action) (new : FilesState O) (result : Result Reply TantivyError) → KeepsFiles (OnlyReads g.told) g.view files new → KeepsDisk (g.disk files.outside) (g.disk new.outside)
       → IfOk result (λ reply. KeepsSealed s (after s action reply)) → LeavesStored g action files new s result
   asked_stored action new result frame keeps same =
-      let names : (names_below new).1 ≡ (names_below files).1 = rw (frame.managed.names, frame.managed.collections) refl in
-      stores_on action new result (Within (possible_now (g.disk files.outside))) frame.managed.form (track_read g names keeps d.tracked) (on_ok result (listed_read g (names_below files) (names_below new) names keeps d.listed))
-      (within_step keeps.time keeps.states.possible.no_more) (λ p within n needs t is. within.each n t is) (λ n bytes needed file now. keeps.states.now n ∙ now) same
+      disk_stays action new result frame.managed.form (rw (frame.managed.names, frame.managed.collections) refl) keeps same

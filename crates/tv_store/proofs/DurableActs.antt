@@ -13,10 +13,11 @@ use Rattle.tv_formats.proofs.Results.{any_err, on_ok}
 use Rattle.tv_formats.specs.Commits.{Commit}
 use Rattle.tv_formats.specs.Disk.{Throughout}
 use Rattle.tv_machine.proofs.Changes.{lifted}
+use Rattle.tv_machine.specs.Living.{is_busy}
 use Rattle.tv_machine.specs.Machine.{catalog_step}
 use Rattle.tv_machine.specs.SoundStates.{IsWhole}
 use Rattle.tv_machine.specs.State.{Catalog, State, StepResult, file_at, on_catalog}
-use Rattle.tv_machine.specs.declared.event.Event.{Event}
+use Rattle.tv_events.specs.declared.event.Event.{Event}
 use Rattle.tv_catalog.specs.Actions.{after, changed, reply_in, settled}
 use Rattle.tv_catalog.specs.Catalogs.{FitsCatalog}
 use Rattle.tv_store.specs.Durable.{ActsSafely, IsDurable, LeavesStored, PerformsSafely, store_files}
@@ -31,7 +32,7 @@ use Rattle.tv_store.proofs.ActsPlanned.{commit_stays, files_hold, held_after, in
 use Rattle.tv_store.proofs.Asking.{kept_by_files}
 use Rattle.tv_store.proofs.Durable.{read_durable, read_run}
 use Rattle.tv_store.proofs.DurableCommits.{later_stored}
-use Rattle.tv_store.proofs.DurableStates.{held_durable}
+use Rattle.tv_store.proofs.DurableStates.{held_durable, relocked}
 use Rattle.tv_store.proofs.FileStates.{disk_same}
 use Rattle.tv_store.proofs.Holding.{same_holds}
 use Rattle.tv_store.proofs.Lifting.{catalog_held, commit_stays as catalog_keeps}
@@ -63,7 +64,11 @@ told_acts g old new event known result s content held d steps fits kept below ke
     requires : (n : List ℕ) → MayRequire s n (on_catalog s known).1
     requires n = subst (λ (r : StepResult State). MayRequire s n r.1) (lifted s event [] known here) (required_step s event [] n)
 
-module _ {O W C : Type 0} (g : Ghosts O W C) (catalog : Catalog) (standing : Standing) (first : FilesState O) (event : Event) (s : State) (held : Holds (g.view first.outside).reads (kept_of catalog first) s) (d : IsDurable g first s) where
+module _ {O W C : Type 0} (g : Ghosts O W C) (catalog : Catalog) (standing : Standing) (first : FilesState O) (event : Event) (s : State) (held : Holds (g.view first.outside).reads (kept_of catalog first) s) (durable : IsDurable g (store_files (store_of catalog first standing)) s) where
+  -- that of its files
+  d : IsDurable g first s
+  d = relocked g (store_files (store_of catalog first standing)) first.locked s durable
+
   -- the event failed, and what the state stores is stored at each moment
   failed_acts : {A : Type 0} (new : StoreState O) (error : TantivyError) → Throughout (IsSafe (stored_of first.form s) (stored_of first.form s)) (g.disk first.outside) (g.disk new.outside)
       → ActsSafely {A = A} g (store_of catalog first standing) new event s (Err error)
@@ -88,7 +93,7 @@ module _ {O W C : Type 0} (g : Ghosts O W C) (catalog : Catalog) (standing : Sta
 
       -- and what the event does
       pub performed_acts : {A : Type 0} (k : Catalog) (result : Result A TantivyError) → LeavesStored g planned.action first last s performing
-          → OnOk result ((t : State) → IsHeld g (store_of k last standing) t → IsDurable g last t)
+          → OnOk result ((t : State) → IsHeld g (store_of k last standing) t → IsDurable g (store_files (store_of k last standing)) t)
           → IfErr result (λ error. error ≡ errors.Memory → Throughout (IsSafe (stored_of first.form s) (stored_of first.form s)) (g.disk first.outside) (g.disk last.outside))
           → ActsSafely g (store_of catalog first standing) (store_of k last standing) event s result
       performed_acts k result leaves durable wanted = record {
@@ -106,12 +111,13 @@ module _ {O W C : Type 0} (g : Ghosts O W C) (catalog : Catalog) (standing : Sta
     -- a crash can't hurt what it leaves
     pub durable_after : (planned : Planned) (plans : Plans (kept_of catalog first) event planned) (same : (g.view next.outside).faults ≡ (g.view first.outside).faults) (last : FilesState O) (reply : Reply) → g.told.content → IsWhole s
         → Performs g planned.action next last (Ok reply) → LeavesStored g planned.action first last s (Ok reply) → StandsNow (g.view last.outside) (g.disk last.outside)
-        → (k : Catalog) → k ≡ settled catalog planned.change reply → (t : State) → IsHeld g (store_of k last standing) t → IsDurable g last t
+        → (k : Catalog) → k ≡ settled catalog planned.change reply → (t : State) → IsHeld g (store_of k last standing) t → IsDurable g (store_files (store_of k last standing)) t
     durable_after planned plans same last reply content whole p leaves settles k is t h =
         let deletes = p.performed.0 in
         let did = p.performed.2 content s (files_hold g catalog standing first event planned plans next asked same content s held) whole (plans.suits s (in_memory g catalog standing first event planned plans next asked same s held)) in
         let now = after s planned.action reply in
-        held_durable g (store_of (settled catalog planned.change reply) last standing) s now (changed now planned.change reply) settles leaves.durable
+        relocked g (store_files (store_of (settled catalog planned.change reply) last standing)) (is_busy k) t
+        (held_durable g (store_of (settled catalog planned.change reply) last standing) s now (changed now planned.change reply) settles (relocked g last (is_busy (settled catalog planned.change reply)) now leaves.durable)
         (held_after g catalog standing first event planned plans next asked same last s deletes reply held p.gives did) (live_stays s planned.action reply) (commit_stays now planned.change reply) (λ n. refl)
         (λ n. subst (λ (r : StepResult State). MayRequire s n r.1) (stepped g catalog standing first event planned plans next asked same last s held deletes reply did.reply_is) (required_step s event deletes n))
-        t (subst (λ (c : Catalog). IsHeld g (store_of c last standing) t) is h)
+        t (subst (λ (c : Catalog). IsHeld g (store_of c last standing) t) is h))

@@ -22,6 +22,8 @@ use Rattle.tv_machine.specs.Index.{IsFileOf}
 use Rattle.tv_machine.specs.ReopenEvents.{all_left}
 use Rattle.tv_machine.specs.State.{FileState, Left, Open, SealedFile, State, file_at}
 use Rattle.tv_managed.specs.Crashes.{Gains, IsFree, IsGiven, IsTracked, LeavesSafely, SettlesStates}
+use Rattle.tv_managed.specs.Names.{ManagedNames}
+use Rattle.tv_managed.specs.TrackLaws.{listed_read, track_read}
 use Rattle.tv_catalog.specs.Actions.{after, of_body}
 use Rattle.tv_store.specs.Durable.{IsDurable, LeavesStored}
 use Rattle.tv_store.specs.FileStates.{OpensStates, SealsAs}
@@ -163,11 +165,14 @@ module _ {O W C : Type 0} (g : Ghosts O W C) (files : FilesState O) (s : State) 
   forgotten : IsTracked g (files.outside, record { managed = files.managed; collections = no_collections })
   forgotten = record { forgets_none = d.tracked.forgets_none; covers = d.tracked.covers; listed = λ n managed free. d.listed n managed; gone = λ n undotted done. absurd (cc done) }
 
-  pub reopened_stored : (new : FilesState O) → new ≡ record files { collections = new.collections; open_files = new.open_files; left = new.left } → new.collections ≡ no_collections → LeavesStored g actions.Reopen files new s (Ok replies.Done)
-  reopened_stored new others none =
-      subst (λ v. LeavesStored g actions.Reopen files v s (Ok replies.Done)) (sym others)
-      (unasked actions.Reopen new.collections new.open_files new.left (Ok replies.Done)
-      (subst (λ (k : Collections). IsTracked g (files.outside, record { managed = files.managed; collections = k })) (sym none) forgotten) (all_left_keeps s))
+  pub reopened_stored : (new : FilesState O) → new.form ≡ files.form → (names_below new).1 ≡ record { managed = files.managed; collections = no_collections } → KeepsDisk (g.disk files.outside) (g.disk new.outside)
+      → LeavesStored g actions.Reopen files new s (Ok replies.Done)
+  reopened_stored new made names keeps =
+      let begun : O × ManagedNames = (files.outside, record { managed = files.managed; collections = no_collections }) in
+      let tracks = track_read g {old = begun} {new = names_below new} names keeps forgotten in
+      stores_on g files s stands h d actions.Reopen new (Ok replies.Done) (Within (possible_now (g.disk files.outside))) made (record { tracked = tracks.tracked; moments = tracks.moments })
+      (listed_read g begun (names_below new) names keeps d.listed) (within_step keeps.time keeps.states.possible.no_more) (λ p within n needs t is. within.each n t is)
+      (λ n bytes needed file now. keeps.states.now n ∙ now) (all_left_keeps s)
 
   pub unopened_stored : (new : FilesState O) (result : Result Reply TantivyError) → IsErr result → new ≡ record files { collections = new.collections; open_files = new.open_files; left = new.left } → LeavesStored g actions.Reopen files new s result
   unopened_stored new result failed others = leaves_stored g files s stands h d actions.Reopen new result (safe_still g files s stands h d (ap (λ v. g.disk v.outside) others)) (no_answer result _ failed)

@@ -75,6 +75,10 @@ module _ {O W C : Type 0} (g : Ghosts O W C) (files : FilesState O) (s : State) 
       let one : here.0 ≡ bytes = cc in
       here.2 (disk.now n) (stands.possible n) ∙ ap Sealed one
 
+-- a crash asks nothing of whether the meta lock is kept
+pub relocked : {O W C : Type 0} (g : Ghosts O W C) (files : FilesState O) (locked : Bool) (s : State) → IsDurable g files s → IsDurable g (record files { locked = locked }) s
+relocked g files locked s d = record { tracked = d.tracked; listed = d.listed; stored = d.stored; sealed = d.sealed }
+
 -- after an event's step, from what stood before its change: the same commit, and the same files
 pub held_durable : {O W C : Type 0} (g : Ghosts O W C) (new : StoreState O) (from now to : State) → StandsNow (g.view new.outside) (g.disk new.outside) → IsDurable g (store_files new) now → IsHeld g new to
     → now.catalog.live ≡ from.catalog.live → to.catalog.commit ≡ now.catalog.commit → ((n : List ℕ) → file_at to n ≡ file_at now n) → ((n : List ℕ) → MayRequire from n to)

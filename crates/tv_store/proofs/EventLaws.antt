@@ -1,5 +1,5 @@
 -- The laws of a store's events, from what an event that was applied did.
-use Rattle.std.proofs.Common.{◌≡◌, ◌≢◌, ℕ, ◌<◌, ◌+◌, ◌==◌, Bool, true, false, cond, ◌&&◌, ◌||◌, nat_lt, List, [], ◌∷◌, ◌++◌, codes, Option, Some, None, is_some, option_map, refl, sym, ap, subst, ◌∙◌}
+use Rattle.std.proofs.Common.{◌≡◌, ◌≢◌, ℕ, ◌<◌, ◌==◌, Bool, true, false, cond, ◌&&◌, ◌||◌, nat_lt, List, [], ◌∷◌, ◌++◌, codes, Option, Some, None, is_some, option_map, refl, sym, ap, subst, ◌∙◌}
 use Rattle.std.specs.List.{filter}
 use Rattle.std.specs.BTreeMap.{is_at}
 use Rattle.std.proofs.lemmas.Bool.{lt-ltb}
@@ -16,25 +16,25 @@ use Rattle.tv_machine.specs.Index.{IsFileOf}
 use Rattle.tv_machine.specs.Lines.{given, unless, words_of}
 use Rattle.tv_machine.specs.Machine.{step}
 use Rattle.tv_formats.specs.Names.{byte_cmp, has, meta_name, at}
-use Rattle.tv_machine.specs.ReaderEvents.{bodies_in, reload_step, reloaded}
+use Rattle.tv_machine.specs.ReaderEvents.{bodies_in, reload_step}
 use Rattle.tv_machine.specs.SearcherEvents.{bytes_step}
 use Rattle.tv_formats.specs.Segments.{name_of, num_docs}
 use Rattle.tv_machine.specs.SoundStates.{IsWhole}
-use Rattle.tv_machine.specs.State.{Catalog, FileState, Open, Reader, SealedFile, Snapshot, State, StepResult, live_at, on_catalog, reader_at, with_file}
-use Rattle.tv_machine.specs.declared.event.Event.{Event}
-use Rattle.tv_machine.specs.declared.event.Event.TheVariants as events
+use Rattle.tv_machine.specs.State.{Catalog, FileState, Open, Reader, SealedFile, State, StepResult, live_at, on_catalog, reader_at, with_file}
+use Rattle.tv_events.specs.declared.event.Event.{Event}
+use Rattle.tv_events.specs.declared.event.Event.TheVariants as events
 use Rattle.tv_formats.specs.declared.segment.LiveSegment.{LiveSegment}
 use Rattle.tv_formats.specs.declared.segment.SegmentComponent.{SegmentComponent}
 use Rattle.tv_formats.proofs.Entries.{text_at}
-use Rattle.tv_formats.proofs.Numbered.{put_found}
 use Rattle.tv_machine.proofs.Required.{name_is_file}
 use Rattle.tv_machine.proofs.WholeStates.{after_whole}
 use Rattle.tv_store.specs.Applying.{LeavesAlone, Stepped}
-use Rattle.tv_catalog.specs.Effects.{WritesByStep}
+use Rattle.tv_catalog.specs.Effects.{MayReload, WritesByStep}
 use Rattle.tv_store.specs.EventLaws.{HasLiving, HoldsSome}
 use Rattle.tv_store.specs.Kept.{FileHolds, Holds, StoreState}
 use Rattle.tv_store.specs.SnapshotCalls.{ShowsMeta}
 use Rattle.tv_store.proofs.FilesHeld.{body_step}
+use Rattle.tv_store.proofs.ReloadLaws.{reload_shown}
 use Rattle.tv_catalog.proofs.SharedLaws.{file_known, all_found}
 use Rattle.tv_store.proofs.Changed.{file_put}
 
@@ -117,26 +117,6 @@ living_chosen : (c : Catalog) (ids : List (List ℕ)) (id : List ℕ) (segment :
 living_chosen c ids id segment named live some =
     at_filtered (λ e. has ids e.0 && nat_lt 0 (num_docs e.1)) c.live id segment (ap (λ (b : Bool). b && nat_lt 0 (num_docs segment)) named ∙ lt-ltb 0 (num_docs segment) some) live
 
--- ---- what a reload shows
-
-shown_by : (c : Catalog) (number : ℕ) (bodies : List (List (List ℕ))) (reader : Reader) (there : Option Reader) → reader_at c number ≡ there
-    → reader_at (given c there (codes "unknown-reader") (reloaded c number bodies)).1 number ≡ Some reader → reader.shown.commit ≡ c.commit
-shown_by c number bodies reader None none found = absurd (let both : ◌≡◌ {A = Option Reader} None (Some reader) = sym none ∙ found in cc)
-shown_by c number bodies reader (Some was) is found =
-    let shown : Snapshot = record { generation = was.next; commit = c.commit; bodies = bodies } in
-    let next : Reader = record was { next = was.next + 1; shown = shown } in
-    let both : ◌≡◌ {A = Option Reader} (Some next) (Some reader) = sym (put_found c.reading.readers number next) ∙ found in
-    let one : next ≡ reader = cc in
-    ap (λ (r : Reader). r.shown.commit) (sym one)
-
-same_commit : (c : Catalog) (number : ℕ) (bodies : List (List (List ℕ))) (there : Option Reader) → (given c there (codes "unknown-reader") (reloaded c number bodies)).1.commit ≡ c.commit
-same_commit c number bodies None = refl
-same_commit c number bodies (Some was) = refl
-
-reload_shows : (c : Catalog) (number : ℕ) (bodies : List (List (List ℕ))) (reader : Reader) → reader_at (reload_step c number bodies).1 number ≡ Some reader → (reload_step c number bodies).1.commit ≡ reader.shown.commit
-reload_shows c number bodies reader found =
-    same_commit c number bodies (reader_at c number) ∙ sym (shown_by c number bodies reader (reader_at c number) refl found)
-
 -- ---- what was sealed
 
 sealed_is : (read written : Option (List ℕ)) (bytes : List ℕ) (file : Option FileState) → file ≡ Some (SealedFile bytes) → FileHolds file read written → read ≡ Some bytes
@@ -177,14 +157,15 @@ module _ {O W C : Type 0} (g : Ghosts O W C) (old new : StoreState O) (h : Holds
         saved.text ∙ ap (λ (f : IndexForm). Some (saved_text f.settings f.schema (commit_step h.state payload ids).1.catalog.commit)) (sym form)
         ∙ ap (λ (c : Catalog). Some (saved_text new.kept.form.settings new.kept.form.schema c.commit)) (sym (catalog_after (events.Commit payload ids) answer did))
 
-  pub shows_commit : (number : ℕ) (answer : List ℕ) (reader : Reader) → reader_at new.kept.catalog number ≡ Some reader → Stepped g old new (events.Reload number) answer → ShowsMeta g new reader.shown
-  shows_commit number answer reader there did tells =
+  pub shows_commit : (number : ℕ) (answer : List ℕ) (reader : Reader) → MayReload old.kept.catalog number → reader_at new.kept.catalog number ≡ Some reader → Stepped g old new (events.Reload number) answer → ShowsMeta g new reader.shown
+  shows_commit number answer reader may there did tells =
       let holds = (did.each h.tells h.state h.held h.whole).held in
       let bodies = bodies_in h.state h.state.catalog.commit in
-      let found : reader_at (reload_step h.state.catalog number bodies).1 number ≡ Some reader = ap (λ (c : Catalog). reader_at c number) (sym holds.catalog) ∙ there in (
+      let found : reader_at (reload_step h.state.catalog number bodies).1 number ≡ Some reader = ap (λ (c : Catalog). reader_at c number) (sym holds.catalog) ∙ there in
+      let shown = reload_shown h.state.catalog number bodies reader (subst (λ (c : Catalog). MayReload c number) h.held.catalog may) found in (
         holds.meta.0,
         holds.meta.1,
-        (new.kept.form.settings, (reload_step h.state.catalog number bodies).1.commit, holds.meta.2, reload_shows h.state.catalog number bodies reader found),
+        (new.kept.form.settings, (reload_step h.state.catalog number bodies).1.commit, holds.meta.2, shown.0 ∙ sym shown.1),
       )
 
   pub bytes_shown : (number ord : ℕ) (component : SegmentComponent) (answer : List ℕ) → Stepped g old new (events.Bytes number ord component) answer → answer ≡ (bytes_step old.kept.catalog number ord component).0

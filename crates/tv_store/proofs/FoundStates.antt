@@ -14,10 +14,11 @@ use Rattle.tv_machine.specs.Index.{FoundIndex, IsFileOf, OpenedIndex}
 use Rattle.tv_formats.specs.Listing.{Listing}
 use Rattle.tv_formats.specs.Meaning.{Means}
 use Rattle.tv_formats.specs.Names.{has, meta_name}
-use Rattle.tv_machine.specs.Readable.{CanRead}
+use Rattle.tv_machine.specs.Living.{unread_commits}
+use Rattle.tv_machine.specs.Readable.{AreGoodFiles, CanRead}
 use Rattle.tv_formats.specs.Schemas.{IsSchema, IsSchemaText}
 use Rattle.tv_formats.specs.Segments.{all_required}
-use Rattle.tv_machine.specs.State.{Catalog, FileState, SealedFile, file_at}
+use Rattle.tv_machine.specs.State.{Catalog, FileState, Readers, SealedFile, file_at}
 use Rattle.tv_formats.proofs.Entries.{has_inserted}
 use Rattle.tv_formats.proofs.ListTexts.{listing_one}
 use Rattle.tv_formats.proofs.MeansOne.{means_one}
@@ -164,5 +165,5 @@ module _ {O W C : Type 0} (g : Ghosts O W C) (locked : O) (schema text : List �
             let file = required_is_file catalog.commit.segments n f.is_commit.segments here in
             sealed_good (file_at index.state n) (now n) (now n) (sealed_is n file) refl (good n here);
       },
-      tt,
+      subst (λ (who : Readers). AllByRecursion (λ (commit : Commit). AreGoodFiles index.state (all_required commit.segments)) (unread_commits (record index.state.catalog { reading = who }))) (sym index.opens.reading) tt,
     )

@@ -1,5 +1,5 @@
 -- What a call leaves of a store and its files, and why one fails that comes after another.
-use Rattle.std.proofs.Common.{◌≡◌, ℕ, List, Result, Ok, Err, sym, ap, subst, ◌∙◌}
+use Rattle.std.proofs.Common.{◌≡◌, ℕ, Bool, List, Result, Ok, Err, sym, ap, subst, ◌∙◌}
 use Rattle.std.specs.Prelude.{IsErrAnd}
 use Rattle.tv_base.specs.Causes.{IoCause}
 use Rattle.tv_base.specs.Errors.{of_io}
@@ -18,17 +18,18 @@ use Rattle.tv_store.specs.Kept.{FilesState}
 use Rattle.tv_store.specs.Stays.{EventFaults, KeepsFiles, KeepsMade, KeepsManaged}
 use Rattle.tv_store.specs.StoreCauses.{EventCause}
 
-module _ {O W : Type 0} (keeps : View W → View W → Type 0) (view : O → View W) (form : IndexForm) (open_files : List (List ℕ × List ℕ)) (left : List (List ℕ)) (d now new : O × ManagedNames) (old : FilesState O) (same : now ≡ d)
-    (is : record { outside = d.0; form = form; managed = d.1.managed; collections = d.1.collections; open_files = open_files; left = left } ≡ old) where
+module _ {O W : Type 0} {locked : Bool} (keeps : View W → View W → Type 0) (view : O → View W) (form : IndexForm) (open_files : List (List ℕ × List ℕ)) (left : List (List ℕ)) (d now new : O × ManagedNames) (old : FilesState O) (same : now ≡ d)
+    (is : record { outside = d.0; form = form; managed = d.1.managed; collections = d.1.collections; open_files = open_files; left = left; locked = locked } ≡ old) where
   -- what a call on the directory keeps of it
   kept_below : keeps (view now.0) (view new.0) → keeps (view old.outside) (view new.0)
   kept_below h = subst (λ (o : O). keeps (view o) (view new.0)) (ap (λ (x : O × ManagedNames). x.0) same ∙ ap (λ (v : FilesState O). v.outside) is) h
 
   -- the files of a store are what they were but for the open ones, where its directory keeps its names
   pub kept_managed : (after : List (List ℕ × List ℕ)) → KeepsNames keeps view now new
-      → KeepsManaged keeps view old (record { outside = new.0; form = form; managed = new.1.managed; collections = new.1.collections; open_files = after; left = left })
+      → KeepsManaged keeps view old (record { outside = new.0; form = form; managed = new.1.managed; collections = new.1.collections; open_files = after; left = left; locked = locked })
   kept_managed after h = record {
     form = ap (λ (v : FilesState O). v.form) is;
+    locked = ap (λ (v : FilesState O). v.locked) is;
     names = ap (λ (n : ManagedNames). n.managed) h.names ∙ ap (λ (x : O × ManagedNames). x.1.managed) same ∙ ap (λ (v : FilesState O). v.managed) is;
     collections = ap (λ (n : ManagedNames). n.collections) h.names ∙ ap (λ (x : O × ManagedNames). x.1.collections) same ∙ ap (λ (v : FilesState O). v.collections) is;
     left = ap (λ (v : FilesState O). v.left) is;
@@ -37,14 +38,15 @@ module _ {O W : Type 0} (keeps : View W → View W → Type 0) (view : O → Vie
 
   -- and so are the open ones
   pub kept_files : KeepsNames keeps view now new
-      → KeepsFiles keeps view old (record { outside = new.0; form = form; managed = new.1.managed; collections = new.1.collections; open_files = open_files; left = left })
+      → KeepsFiles keeps view old (record { outside = new.0; form = form; managed = new.1.managed; collections = new.1.collections; open_files = open_files; left = left; locked = locked })
   kept_files h = record { managed = kept_managed open_files h; open_files = ap (λ (v : FilesState O). v.open_files) is }
 
   -- where a file is made, the settings, the schema and the collections are what they were
   pub kept_made : (after : List (List ℕ × List ℕ)) → new.1.collections ≡ now.1.collections → keeps (view now.0) (view new.0)
-      → KeepsMade keeps view old (record { outside = new.0; form = form; managed = new.1.managed; collections = new.1.collections; open_files = after; left = left })
+      → KeepsMade keeps view old (record { outside = new.0; form = form; managed = new.1.managed; collections = new.1.collections; open_files = after; left = left; locked = locked })
   kept_made after collections below = record {
     form = ap (λ (v : FilesState O). v.form) is;
+    locked = ap (λ (v : FilesState O). v.locked) is;
     collections = collections ∙ ap (λ (x : O × ManagedNames). x.1.collections) same ∙ ap (λ (v : FilesState O). v.collections) is;
     below = kept_below below;
   }

@@ -25,3 +25,10 @@ keeps_then true false false old next new is h same = record {
 }
 keeps_then was false true old next new is h same = absurd (true≢false (sym is))
 keeps_then was true false old next new is h same = absurd (true≢false is)
+
+-- each stood as it stood, up to there
+pub then_keeps : (was now : Bool) (old next new : Locks) → SameLocks old next → KeepsLocks was now next new → KeepsLocks was now old new
+then_keeps false false old next new same h = λ n. h n ∙ same n
+then_keeps true true old next new same h = λ n. h n ∙ same n
+then_keeps false true old next new same h = record { was_free = sym (same _) ∙ h.was_free; is_held = h.is_held; others = λ n other. h.others n other ∙ same n }
+then_keeps true false old next new same h = record { is_free = h.is_free; others = λ n other. h.others n other ∙ same n }

@@ -15,6 +15,8 @@ pub mod DurableFiles
 pub mod DurableCollections
 pub mod DurableCommits
 pub mod Saved
+pub mod LockingCauses
+pub mod SettledNumbers
 pub mod ActsPlanned
 pub mod NewlyRequired
 pub mod DurableStates
@@ -26,6 +28,7 @@ pub mod CollectingEvents
 pub mod CollectingFiles
 pub mod ReopenEvents
 pub mod Spending
+pub mod BusyCatalogs
 pub mod Steps
 pub mod FewNumbers
 pub mod ReaderNumbers
@@ -35,6 +38,8 @@ pub mod ReportEvents
 pub mod StoreLocks
 pub mod Asking
 pub mod KeptLocks
+pub mod KeptMetaLock
+pub mod NotedFiles
 pub mod Acting
 pub mod Applied
 pub mod AppliedSafely
@@ -50,7 +55,9 @@ pub mod NewFiles
 pub mod SavedFiles
 pub mod FileStates
 pub mod EventLaws
+pub mod ReloadLaws
 pub mod RefusedBytes
 pub mod AnswerRoom
 pub mod ValidatedFiles
+pub mod FreedLocks
 pub mod CrashLaws

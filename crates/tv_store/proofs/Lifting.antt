@@ -2,14 +2,15 @@
 use Rattle.std.proofs.Common.{ℕ, ◌≡◌, ◌+◌, ◌<◌, ◌^◌, false, not, ◌==◌, List, Some, refl, sym, subst, arith}
 use Rattle.std.specs.List.{AllByRecursion}
 use Rattle.tv_formats.specs.Collections.{Collections}
-use Rattle.tv_machine.specs.declared.event.Event.{Event}
-use Rattle.tv_machine.specs.declared.event.Event.TheVariants as events
+use Rattle.tv_events.specs.declared.event.Event.{Event}
+use Rattle.tv_events.specs.declared.event.Event.TheVariants as events
 use Rattle.tv_formats.specs.declared.segment.LiveSegment.{LiveSegment}
 use Rattle.tv_formats.specs.Commits.{Commit, IsSegment}
 use Rattle.tv_formats.specs.Meaning.{Means}
 use Rattle.tv_formats.specs.Files.{Reads}
 use Rattle.tv_machine.specs.Machine.{catalog_step}
 use Rattle.tv_machine.specs.Readable.{ReadsGood}
+use Rattle.tv_machine.specs.ReloadEvents.{published}
 use Rattle.tv_machine.specs.SearcherEvents.{with_searcher}
 use Rattle.tv_formats.specs.Segments.{fresh_segment}
 use Rattle.tv_machine.specs.SegmentEvents.{has_docs}
@@ -24,7 +25,7 @@ use Rattle.tv_catalog.specs.ReaderNumbers.{FewNumbers}
 use Rattle.tv_store.proofs.FewNumbers.{few_more}
 use Rattle.tv_catalog.proofs.SharedLaws.{put_segments, found_segment}
 use Rattle.tv_store.proofs.Named.{fresh_is}
-use Rattle.tv_store.proofs.ReaderNumbers.{few_released}
+use Rattle.tv_store.proofs.ReaderNumbers.{few_published, few_released}
 use Rattle.tv_store.proofs.Steps.{IsNoCommit}
 
 -- the current commit stays
@@ -34,6 +35,7 @@ commit_stays c managed event result =
       same = refl;
       fresh = λ id is free. refl;
       said = λ id n segment is there none. refl;
+      publishes = λ number reader noted bodies is there read. refl;
       shows = λ number reader is there. refl;
       reader = λ number. refl;
       searcher = λ number. refl;
@@ -48,6 +50,7 @@ segments_stay c managed event result fits all =
       said = λ id n segment is there none.
           let known = found_segment c.live id segment there all in
           put_segments c.live id (record segment { max_doc = n }) (numbered segment n id none known (subst FitsCatalog is fits).1) all;
+      publishes = λ number reader noted bodies is there read. all;
       shows = λ number reader is there. all;
       reader = λ number. all;
       searcher = λ number. all;
@@ -63,6 +66,9 @@ numbers_grow bound c collections managed event result few =
       same = more;
       fresh = λ id is free. more;
       said = λ id n segment is there none. more;
+      publishes = λ number reader noted bodies is there read.
+          subst (λ (e : Event). FewNumbers (bound + written_by e) (published c number reader (record { generation = reader.next; commit = noted; bodies = bodies })).1.reading collections) (sym is)
+          (few_published bound c.reading collections _ number reader _ there refl refl few);
       shows = λ number reader is there. subst (λ (e : Event). FewNumbers (bound + written_by e) (with_searcher c reader.shown).reading collections) (sym is) (record {
         next_reader = omega (arith, few.next_reader);
         next_searcher = omega (arith, few.next_searcher);
@@ -87,6 +93,9 @@ plain_event c managed events.Gc result e = absurd cc
 plain_event c managed events.GcBegin result e = absurd cc
 plain_event c managed (events.Reader policy) result e = absurd cc
 plain_event c managed (events.Reload number) result e = absurd cc
+plain_event c managed (events.ReloadLock number) result e = absurd cc
+plain_event c managed (events.ReloadOpen number) result e = absurd cc
+plain_event c managed events.Deliver result e = absurd cc
 plain_event c managed other result e = record { reads = λ s. tt; free = λ k takes. takes; none = tt }
 
 -- what is held after it

@@ -14,7 +14,7 @@ use Rattle.tv_machine.specs.DeleteEvents.{having_deleted_docs, next_deletes}
 use Rattle.tv_machine.specs.Machine.{step}
 use Rattle.tv_machine.specs.SegmentEvents.{is_in_use}
 use Rattle.tv_machine.specs.State.{State, live_at, with_live}
-use Rattle.tv_machine.specs.declared.event.Event.{Event}
+use Rattle.tv_events.specs.declared.event.Event.{Event}
 
 -- a name that live segments require was required by live ones before, or the commit requires it, or it isn't managed
 abbrev pub MayRequire : State → List ℕ → State → Type 0
@@ -53,10 +53,10 @@ required_changes s event n = record {
   opens = λ id segment component e there absent. inl;
   puts = λ name body file e good. inl;
   commits = λ payload ids last e. inl;
-  collects = λ outcomes. inl;
+  collects = λ outcomes free. inl;
   releases = λ id segment needed. inl (required_left (is_at (byte_cmp id)) s.catalog.live n needed);
   deletes = λ id m segment may. deleted s id m segment n may;
-  begins = inl;
+  begins = λ free. inl;
   tries = λ number c name left is_done step there e. inl;
   finishes = λ number c e there. inl;
   reopens = λ e needed. inr (inl needed);

@@ -225,14 +225,14 @@ bodies_left {D} {W} {C} written es new old test cut is =
     ap (λ (fs : List (List ℕ × OpenFile D W C)). bodies written fs) cut ∙ cut_seen (λ (file : OpenFile D W C). written file.writer.writer) es test ∙ ap (λ (bs : List (List ℕ × List ℕ)). remove_entry test bs) is
 
 -- the files of a store after one was taken out
-pub one_less : {O D W C : Type 0} (written : W → List ℕ) (outside : O) (form : IndexForm) (managed : List (List ℕ)) (collections : Collections) (es new : List (List ℕ × OpenFile D W C)) (left : List (List ℕ)) (old : FilesState O) (test : List ℕ → Bool)
-    → new ≡ remove_entry test es → record { outside = outside; form = form; managed = managed; collections = collections; open_files = bodies written es; left = left } ≡ old
-    → record { outside = outside; form = form; managed = managed; collections = collections; open_files = bodies written new; left = left } ≡ record old { open_files = remove_entry test old.open_files }
-one_less {O} written outside form managed collections es new left old test cut is =
+pub one_less : {O D W C : Type 0} {locked : Bool} (written : W → List ℕ) (outside : O) (form : IndexForm) (managed : List (List ℕ)) (collections : Collections) (es new : List (List ℕ × OpenFile D W C)) (left : List (List ℕ)) (old : FilesState O) (test : List ℕ → Bool)
+    → new ≡ remove_entry test es → record { outside = outside; form = form; managed = managed; collections = collections; open_files = bodies written es; left = left; locked = locked } ≡ old
+    → record { outside = outside; form = form; managed = managed; collections = collections; open_files = bodies written new; left = left; locked = locked } ≡ record old { open_files = remove_entry test old.open_files }
+one_less {O} {locked = locked} written outside form managed collections es new left old test cut is =
     ap (λ (open_files : List (List ℕ × List ℕ)). the_files open_files) (bodies_left written es new (bodies written es) test cut refl)
     ∙ ap (λ (v : FilesState O). record v { open_files = remove_entry test v.open_files }) is where
       the_files : List (List ℕ × List ℕ) → FilesState O
-      the_files open_files = record { outside = outside; form = form; managed = managed; collections = collections; open_files = open_files; left = left }
+      the_files open_files = record { outside = outside; form = form; managed = managed; collections = collections; open_files = open_files; left = left; locked = locked }
 
 -- whether a file is sealed, by what the directory answers where it isn't open and wasn't left
 pub sealed_answer : {S : Type 0} (reads : S → Reads) (inside old : S) (asked name : List ℕ) (found left : Bool) (o : Option (List ℕ)) → inside ≡ old → asked ≡ name → found ≡ is_some (reads inside asked) → is_some o ≡ false → left ≡ false

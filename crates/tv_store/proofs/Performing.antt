@@ -1,17 +1,18 @@
 -- How an action is shown to be performed.
-use Rattle.std.proofs.Common.{ℕ, ◌≡◌, ◌≤◌, ◌+◌, Bool, List, [], Result, Ok, Err, refl, sym, ap, subst, arith, inl}
+use Rattle.std.proofs.Common.{ℕ, ◌≡◌, ◌≤◌, ◌+◌, ◌∙◌, Bool, true, false, List, [], Result, Ok, Err, refl, sym, ap, subst, arith, inl}
 use Rattle.std.proofs.lemmas.Result.{IfOk-weaker}
 use Rattle.std.specs.Prelude.{IfErr, IfOk, OnOk}
 use Rattle.tv_base.specs.declared.error.TantivyError.{TantivyError}
 use Rattle.tv_base.specs.declared.error.TantivyError.TheVariants as errors
+use Rattle.tv_device.specs.Locks.{Locks, SameLocks}
 use Rattle.tv_device.specs.View.{Kept as KeptView, MayDelete, OnlyReads, Told, View}
 use Rattle.tv_device.specs.declared.directory.Directory.{Ghosts}
 use Rattle.tv_formats.proofs.Results.{any_err, on_err, on_ok}
 use Rattle.tv_formats.specs.Files.{Rose, RoseBy}
 use Rattle.tv_device.specs.Watch.{MayNote, WatchState}
 use Rattle.tv_formats.specs.Names.{meta_name}
-use Rattle.tv_machine.specs.declared.event.Event.{Event}
-use Rattle.tv_machine.specs.declared.event.Event.TheVariants as events
+use Rattle.tv_events.specs.declared.event.Event.{Event}
+use Rattle.tv_events.specs.declared.event.Event.TheVariants as events
 use Rattle.tv_machine.specs.Machine.{refused_in}
 use Rattle.tv_machine.specs.SoundStates.{IsWhole}
 use Rattle.tv_machine.specs.State.{State}
@@ -21,11 +22,11 @@ use Rattle.tv_store.proofs.Asking.{kept_by_files}
 use Rattle.tv_store.proofs.FilesHeld.{short_same}
 use Rattle.tv_store.proofs.Holding.{dotted_others, reads_alone, same_holds}
 use Rattle.tv_store.proofs.Listings.{undotted_isnt_list}
-use Rattle.tv_catalog.specs.Actions.{MayGive, OnlyKeeps, SavesNoCommit, SpentBy, Suits, LocksMeta, TriesDeletes, added_by, after, given_by, reply_in}
+use Rattle.tv_catalog.specs.Actions.{MayGive, OnlyKeeps, SavesNoCommit, SpentBy, Suits, LocksMeta, TriesDeletes, added_by, after, given_by, keeps_lock, reply_in}
 use Rattle.tv_store.specs.Performing.{MayNoteBy, FailsBy, FaultsBy, FilesHold, KeepsBy, MetaBy, Performed, Performs, Short}
 use Rattle.tv_formats.specs.Commits.{Commit}
 use Rattle.tv_device.specs.ViewLaws.{kept_itself}
-use Rattle.tv_store.specs.Applying.{LeavesAlone, MayNoteAt}
+use Rattle.tv_store.specs.Applying.{KeepsLocks, LeavesAlone, MayNoteAt}
 use Rattle.tv_catalog.specs.declared.action.Reply.TheVariants as replies
 use Rattle.tv_store.specs.Kept.{FilesState, kept_of}
 use Rattle.tv_catalog.specs.Plans.{IsSegmentFile, SavesOnlyAt}
@@ -47,31 +48,45 @@ no_lock_in : {A : Type 0} (busy refused quiet spent : Type 0) (result : Result A
 no_lock_in busy refused quiet spent (Ok a) h = tt
 no_lock_in busy refused quiet spent (Err e) h = no_lock busy refused quiet spent e h
 
--- an action that takes no lock fails so
-fails_plainly : {O W C : Type 0} (g : Ghosts O W C) (action : Action) (old new : FilesState O) (result : Result Reply TantivyError) → (LocksMeta action → ⊥)
+-- an action that takes no lock, and reads no commit's files
+abbrev pub ReadsNone : Action → Type 0
+ReadsNone (actions.Read commit) = ⊥
+ReadsNone other = Unit {0}
+
+abbrev pub TakesNone : Action → Type 0
+TakesNone action = (LocksMeta action → ⊥) × ReadsNone action
+
+-- fails so
+fails_plainly : {O W C : Type 0} (g : Ghosts O W C) (action : Action) (old new : FilesState O) (result : Result Reply TantivyError) → TakesNone action
     → IfErr result (EventCause (Rose (g.view old.outside).faults (g.view new.outside).faults) ((g.view new.outside).faults ≡ (g.view old.outside).faults) ⊥) → FailsBy g action old new result
-fails_plainly g (actions.Load generation) old new result unlocked h = absurd (unlocked tt)
+fails_plainly g (actions.Load generation) old new result unlocked h = absurd (unlocked.0 tt)
+fails_plainly g (actions.Read commit) old new result unlocked h = absurd unlocked.1
 fails_plainly g other old new result unlocked h = no_lock_in _ _ _ _ result h
 
+-- locks that stay go with a meta lock that stays kept or free
+pub same_kept : (locked : Bool) (old new : Locks) → SameLocks old new → KeepsLocks locked locked old new
+same_kept true old new h = h
+same_kept false old new h = h
+
 -- what keeps all but a file keeps what any action keeps
-pub kept_by : {W : Type 0} (told : Told) (action : Action) (old new : View W) → MayNoteBy action old.watched new.watched → KeptView told old new → KeepsBy told action old new
-kept_by told action old new notes h = record {
+pub kept_by : {W : Type 0} {locked : Bool} (told : Told) (action : Action) (old new : View W) → MayNoteBy action old.watched new.watched → KeptView told old new → KeepsBy told action locked locked old new
+kept_by {locked = locked} told action old new notes h = record {
   goes_on = h.frame.tells_none.deletes_none.goes_on;
   deletes_none = λ none. h.frame.tells_none.deletes_none;
   heard = h.frame.tells_none.heard;
   room = h.frame.tells_none.room;
-  locks = h.frame.locks;
+  locks = λ tells. same_kept locked old.locks new.locks (h.frame.locks tells);
   watched = notes;
 }
 
 -- what may delete files keeps what an action keeps that tries to
-pub kept_by_deletes : {W : Type 0} (told : Told) (action : Action) (old new : View W) → TriesDeletes action → MayNoteBy action old.watched new.watched → MayDelete told old new → KeepsBy told action old new
-kept_by_deletes told action old new tries notes h = record {
+pub kept_by_deletes : {W : Type 0} {locked : Bool} (told : Told) (action : Action) (old new : View W) → TriesDeletes action → MayNoteBy action old.watched new.watched → MayDelete told old new → KeepsBy told action locked locked old new
+kept_by_deletes {locked = locked} told action old new tries notes h = record {
   goes_on = h.goes_on;
   deletes_none = λ none. absurd (none tries);
   heard = h.heard;
   room = h.room;
-  locks = h.locks;
+  locks = λ tells. same_kept locked old.locks new.locks (h.locks tells);
   watched = notes;
 }
 
@@ -94,20 +109,24 @@ module _ {O W C : Type 0} (g : Ghosts O W C) (action : Action) (old new : FilesS
     any_ok (Err error) f = tt
 
   -- an action that takes no lock and spends nothing fails as an event does
-  pub plain_faults : EventFaults ⊥ (g.view old.outside) (g.view new.outside) result → (SpentBy old.collections action → ⊥) → (LocksMeta action → ⊥) → FaultsBy g action old new result
+  pub plain_faults : EventFaults ⊥ (g.view old.outside) (g.view new.outside) result → (SpentBy old.collections action → ⊥) → TakesNone action → FaultsBy g action old new result
   plain_faults faults unspent unlocked = record {
     quiet = faults.quiet;
-    free = λ told takes. absurd (unlocked takes);
+    free = λ told takes. absurd (unlocked.0 takes);
     fits = on_ok result unspent;
     cause = fails_plainly g action old new result unlocked faults.cause;
   }
 
+  -- the meta lock is kept for a reload as it was, and the action says so
+  abbrev pub SameLocked : Type 0
+  SameLocked = (new.locked ≡ old.locked) × (keeps_lock action old.locked ≡ old.locked)
+
   -- an action that saves no commit
   pub on_files : IfOk result (MayGive old.collections old.managed action) → Came → (g.told.content → (g.view new.outside).reads meta_name ≡ (g.view old.outside).reads meta_name)
       → (g.told.content → KeepsDotted (g.view old.outside).reads (g.view new.outside).reads) → ((bound : ℕ) → Short bound old.open_files → Short (bound + added_by action) new.open_files) → OnOk result (new.collections.next ≤ old.collections.next + given_by action)
-      → FaultsBy g action old new result → new.form ≡ old.form → KeepsBy g.told action (g.view old.outside) (g.view new.outside) → (OnlyKeeps action → g.told.content → LeavesAlone (g.view old.outside) (g.view new.outside))
-      → Performs g action old new result
-  on_files gives came kept dotted lens numbers faults form frame alone = record {
+      → FaultsBy g action old new result → new.form ≡ old.form → KeepsBy g.told action old.locked old.locked (g.view old.outside) (g.view new.outside) → (OnlyKeeps action → g.told.content → LeavesAlone (g.view old.outside) (g.view new.outside))
+      → SameLocked → Performs g action old new result
+  on_files gives came kept dotted lens numbers faults form frame alone (locked, says) = record {
     gives = gives;
     performed = came;
     alone = alone;
@@ -117,16 +136,18 @@ module _ {O W C : Type 0} (g : Ghosts O W C) (action : Action) (old new : FilesS
     numbers = numbers;
     faults = faults;
     form = form;
-    frame = frame;
+    frame = subst (λ (b : Bool). KeepsBy g.told action old.locked b (g.view old.outside) (g.view new.outside)) (sym locked) frame;
+    keeps = on_ok result (locked ∙ sym says);
+    stays = on_err result locked;
   }
 
   -- one by which the directory is only read
   pub on_read : IfOk result (MayGive old.collections old.managed action) → Came → ((bound : ℕ) → Short bound old.open_files → Short (bound + added_by action) new.open_files)
       → OnOk result (new.collections.next ≤ old.collections.next + given_by action) → FaultsBy g action old new result → new.form ≡ old.form → MayNoteBy action (g.view old.outside).watched (g.view old.outside).watched
-      → OnlyReads g.told (g.view old.outside) (g.view new.outside) → Performs g action old new result
-  on_read gives came lens numbers faults form notes below =
+      → OnlyReads g.told (g.view old.outside) (g.view new.outside) → SameLocked → Performs g action old new result
+  on_read gives came lens numbers faults form notes below locked =
       on_files gives came (λ tells. below.content tells meta_name) (λ tells n dot other. below.content tells n) lens numbers faults form
-      (kept_by g.told action (g.view old.outside) (g.view new.outside) (subst (λ w. MayNoteBy action (g.view old.outside).watched w) (sym below.kept.watched) notes) below.kept) (λ only tells. reads_alone below tells)
+      (kept_by g.told action (g.view old.outside) (g.view new.outside) (subst (λ w. MayNoteBy action (g.view old.outside).watched w) (sym below.kept.watched) notes) below.kept) (λ only tells. reads_alone below tells) locked
 
 -- one that deletes nothing
 pub came_undeleted : {O W C : Type 0} (g : Ghosts O W C) (action : Action) (old new : FilesState O) (result : Result Reply TantivyError) → KeptView g.told (g.view old.outside) (g.view new.outside)
@@ -140,44 +161,45 @@ pub on_one_file : {O W C : Type 0} (g : Ghosts O W C) (action : Action) (old new
     → (g.told.content → KeepsOtherFiles (g.view old.outside).reads (g.view new.outside).reads name)
     → ((bound : ℕ) → Short bound old.open_files → Short (bound + added_by action) new.open_files)
     → EventFaults ⊥ (g.view old.outside) (g.view new.outside) result → KeepsMade (KeptView g.told) g.view old new
-    → (SpentBy old.collections action → ⊥) → (LocksMeta action → ⊥) → (OnlyKeeps action → ⊥) → MayNoteBy action (g.view old.outside).watched (g.view new.outside).watched
-    → Performs g action old new result
-on_one_file g action old new result name is gives performed others lens faults frame unspent unlocked touched notes =
+    → (SpentBy old.collections action → ⊥) → TakesNone action → (OnlyKeeps action → ⊥) → MayNoteBy action (g.view old.outside).watched (g.view new.outside).watched
+    → keeps_lock action old.locked ≡ old.locked → Performs g action old new result
+on_one_file g action old new result name is gives performed others lens faults frame unspent unlocked touched notes says =
     on_files g action old new result gives (came_undeleted g action old new result frame.below performed)
     (λ tells. others tells meta_name (λ e. is.file.1 (sym e)) (undotted_isnt_list meta_name refl))
     (λ tells. dotted_others (g.view old.outside).reads (g.view new.outside).reads name is.file.0 (others tells)) lens (few_given (given_by action) result frame.collections)
-    (plain_faults g action old new result faults unspent unlocked) frame.form (kept_by g.told action (g.view old.outside) (g.view new.outside) notes frame.below) (λ only. absurd (touched only))
+    (plain_faults g action old new result faults unspent unlocked) frame.form (kept_by g.told action (g.view old.outside) (g.view new.outside) notes frame.below) (λ only. absurd (touched only)) (frame.locked, says)
 
 -- what a call keeps that makes no file
 pub as_made : {O W C : Type 0} (g : Ghosts O W C) {old new : FilesState O} → KeepsManaged (KeptView g.told) g.view old new → KeepsMade (KeptView g.told) g.view old new
-as_made g frame = record { form = frame.form; collections = frame.collections; below = frame.below }
+as_made g frame = record { form = frame.form; locked = frame.locked; collections = frame.collections; below = frame.below }
+
+-- want of memory alone, where the device is asked for nothing
+pub wants_memory : {O W C : Type 0} (g : Ghosts O W C) (old new : FilesState O) (result : Result Reply TantivyError) → new.outside ≡ old.outside → IfErr result (λ error. error ≡ errors.Memory) → EventFaults ⊥ (g.view old.outside) (g.view new.outside) result
+wants_memory g old new (Ok reply) same h = record { quiet = ap (λ o. (g.view o).faults) same; fits = λ never. never; cause = tt }
+wants_memory g old new (Err error) same h = record {
+  quiet = tt;
+  fits = tt;
+  cause = subst (EventCause (Rose (g.view old.outside).faults (g.view new.outside).faults) ((g.view new.outside).faults ≡ (g.view old.outside).faults) ⊥) (sym h) (ap (λ o. (g.view o).faults) same);
+}
 
 -- An action that asks the device for nothing: it fails for want of memory alone.
-pub memory_only : {O W C : Type 0} (g : Ghosts O W C) (action : Action) (old new : FilesState O) (result : Result Reply TantivyError) → (SpentBy old.collections action → ⊥) → (LocksMeta action → ⊥) → MayNoteBy action (g.view old.outside).watched (g.view old.outside).watched
+pub memory_only : {O W C : Type 0} (g : Ghosts O W C) (action : Action) (old new : FilesState O) (result : Result Reply TantivyError) → (SpentBy old.collections action → ⊥) → TakesNone action → MayNoteBy action (g.view old.outside).watched (g.view old.outside).watched
     → new.outside ≡ old.outside → new.form ≡ old.form → OnOk result (new.collections.next ≤ old.collections.next + given_by action) → ((bound : ℕ) → Short bound old.open_files → Short (bound + added_by action) new.open_files)
     → IfOk result (MayGive old.collections old.managed action) → ((s : State) → FilesHold g old s → IfOk result (λ reply. (reply ≡ reply_in s action []) × FilesHold g new (after s action reply) × ((commit : Commit) → reply ≡ replies.Saved commit → ⊥)))
-    → IfErr result (λ error. error ≡ errors.Memory) → Performs g action old new result
-memory_only g action old new result unspent unlocked notes same form numbers lens gives held why =
+    → IfErr result (λ error. error ≡ errors.Memory) → SameLocked g action old new result → Performs g action old new result
+memory_only g action old new result unspent unlocked notes same form numbers lens gives held why locked =
     on_read g action old new result gives
     (came_undeleted g action old new result below.kept (λ tells s h whole suits.
     IfOk-weaker result _ _ (λ reply k. record { reply_is = k.0; held = k.1; same = λ some stays. reads_alone below tells; saves = λ commit e. absurd (k.2 commit e) }) (held s h)))
-    lens numbers (plain_faults g action old new result (wanted result why) unspent unlocked) form notes below where
+    lens numbers (plain_faults g action old new result (wants_memory g old new result same why) unspent unlocked) form notes below locked where
       below : OnlyReads g.told (g.view old.outside) (g.view new.outside)
       below = subst (λ o. OnlyReads g.told (g.view old.outside) (g.view o)) (sym same) (record { kept = kept_itself g.told (g.view old.outside); content = λ tells n. refl })
-
-      wanted : (r : Result Reply TantivyError) → IfErr r (λ error. error ≡ errors.Memory) → EventFaults ⊥ (g.view old.outside) (g.view new.outside) r
-      wanted (Ok reply) h = record { quiet = ap (λ o. (g.view o).faults) same; fits = λ never. never; cause = tt }
-      wanted (Err error) h = record {
-        quiet = tt;
-        fits = tt;
-        cause = subst (EventCause (Rose (g.view old.outside).faults (g.view new.outside).faults) ((g.view new.outside).faults ≡ (g.view old.outside).faults) ⊥) (sym h) (ap (λ o. (g.view o).faults) same);
-      }
 
 -- An action that only asks: it changes nothing.
 pub asks_only : {O W C : Type 0} (g : Ghosts O W C) (action : Action) (old new : FilesState O) (result : Result Reply TantivyError) → IfOk result (MayGive old.collections old.managed action)
     → (g.told.content → (s : State) → FilesHold g old s → IsWhole s → Suits s action → IfOk result (λ reply. (reply ≡ reply_in s action []) × (after s action reply ≡ s) × ((commit : Commit) → reply ≡ replies.Saved commit → ⊥)))
-    → FaultsBy g action old new result → KeepsFiles (OnlyReads g.told) g.view old new → MayNoteBy action (g.view old.outside).watched (g.view old.outside).watched → Performs g action old new result
-asks_only g action old new result gives found faults frame notes =
+    → FaultsBy g action old new result → KeepsFiles (OnlyReads g.told) g.view old new → MayNoteBy action (g.view old.outside).watched (g.view old.outside).watched → keeps_lock action old.locked ≡ old.locked → Performs g action old new result
+asks_only g action old new result gives found faults frame notes says =
     let below = frame.managed.below in
     on_read g action old new result gives
     (came_undeleted g action old new result below.kept (λ tells s h whole suits.
@@ -187,7 +209,7 @@ asks_only g action old new result gives found faults frame notes =
       same = λ some stays. reads_alone below tells;
       saves = λ commit e. absurd (k.2 commit e);
     }) (found tells s h whole suits)))
-    (λ bound short. short_same bound (added_by action) old.open_files new.open_files frame.open_files short) (few_given (given_by action) result frame.managed.collections) faults frame.managed.form notes below
+    (λ bound short. short_same bound (added_by action) old.open_files new.open_files frame.open_files short) (few_given (given_by action) result frame.managed.collections) faults frame.managed.form notes below (frame.managed.locked, says)
 
 -- ---- notices
 

@@ -39,7 +39,7 @@ use Rattle.tv_store.specs.ReadCauses.{ReadFault, ApplyCause, LoadingCause, ReadF
 use Rattle.tv_store.specs.Bodies.{RefusesAt, RefusesFile, RefusesFirst, ReadsGoodFile, AreBodies, AreSealed, ReadsSegment, ReadsSegments, FailsAt, AreGood}
 use Rattle.tv_catalog.specs.Kept.{KeptState}
 use Rattle.tv_store.specs.Kept.{FileHolds, Holds}
-use Rattle.tv_catalog.proofs.SharedLaws.{split_there}
+use Rattle.tv_snapshots.proofs.ListLaws.{split_there}
 
 -- ---- why the body of a file isn't read
 

@@ -1,5 +1,5 @@
 -- How far the numbers of readers, of their snapshots and of searchers come by each change.
-use Rattle.std.proofs.Common.{◌≡◌, ℕ, ◌+◌, ◌≤◌, Bool, true, false, cond, List, [], ◌∷◌, Option, Some, arith}
+use Rattle.std.proofs.Common.{◌≡◌, ℕ, ◌+◌, ◌≤◌, Bool, true, false, cond, List, [], ◌∷◌, Option, Some, map, refl, arith}
 use Rattle.std.specs.List.{AllByRecursion}
 use Rattle.std.specs.Map.{remove_entry}
 use Rattle.std.specs.BTreeMap.{is_at, insert_entry}
@@ -7,7 +7,9 @@ use Rattle.std.specs.Ordering.{nat_cmp, match_ordering}
 use Rattle.std.specs.declared.cmp.Ordering.{Ordering}
 use Rattle.std.specs.declared.cmp.Ordering.TheVariants.{Less, Equal, Greater}
 use Rattle.tv_formats.specs.Collections.{Collections}
-use Rattle.tv_machine.specs.State.{Reader, Readers, at_number}
+use Rattle.tv_machine.specs.ReloadEvents.{served, told_of_commit, with_notices}
+use Rattle.tv_machine.specs.State.{Reader, Readers, Snapshot, at_number}
+use Rattle.tv_catalog.specs.Actions.{all_served}
 use Rattle.tv_catalog.specs.ReaderNumbers.{FewNumbers}
 
 -- no reader gives its next snapshot a number above the bound
@@ -76,4 +78,44 @@ few_released bound reading collections readers number released few = record {
   next_searcher = few.next_searcher;
   next_collection = few.next_collection;
   next_snapshots = rw released (left bound reading.readers number few.next_snapshots);
+}
+
+-- a reader whose next snapshot gets the number that it would have got
+pub few_put : (bound : ℕ) (reading : Readers) (collections : Collections) (number : ℕ) (old reader : Reader) → at_number reading.readers number ≡ Some old → reader.next ≡ old.next
+    → FewNumbers bound reading collections → FewNumbers bound (record reading { readers = insert_entry nat_cmp reading.readers number reader }) collections
+few_put bound reading collections number old reader there next few = record {
+  next_reader = few.next_reader;
+  next_searcher = few.next_searcher;
+  next_collection = few.next_collection;
+  next_snapshots = put bound reading.readers number reader (omega (arith, next, few_found bound reading collections number old few there)) few.next_snapshots;
+}
+
+one_served : (bound : ℕ) (b : Bool) (new old : Reader) → new.next ≡ old.next + 1 → old.next ≤ bound → (cond b new old).next ≤ bound + 1
+one_served bound true new old next h = omega (arith, next, h)
+one_served bound false new old next h = omega (arith, h)
+
+served_few : (bound : ℕ) (es : List (ℕ × Reader)) (shown : Snapshot) → AreFew bound es → AreFew (bound + 1) (map (λ e. (e.0, served shown.commit shown.bodies e.1)) es)
+served_few bound [] shown h = tt
+served_few bound (e ∷ es) shown h = (one_served bound e.1.has_notice _ e.1 refl h.0, served_few bound es shown h.1)
+
+-- one more snapshot of each reader with a notice
+pub few_served : (bound : ℕ) (reading : Readers) (collections : Collections) (shown : Snapshot) → FewNumbers bound reading collections → FewNumbers (bound + 1) (all_served reading shown) collections
+few_served bound reading collections shown few = record {
+  next_reader = omega (arith, few.next_reader);
+  next_searcher = omega (arith, few.next_searcher);
+  next_collection = omega (arith, few.next_collection);
+  next_snapshots = served_few bound reading.readers shown few.next_snapshots;
+}
+
+noticed_few : (bound : ℕ) (es : List (ℕ × Reader)) → AreFew bound es → AreFew bound (map (λ e. (e.0, told_of_commit e.1)) es)
+noticed_few bound [] h = tt
+noticed_few bound (e ∷ es) h = (h.0, noticed_few bound es h.1)
+
+-- notices of a commit
+pub few_noticed : (bound : ℕ) (reading : Readers) (collections : Collections) → FewNumbers bound reading collections → FewNumbers bound (with_notices reading) collections
+few_noticed bound reading collections few = record {
+  next_reader = few.next_reader;
+  next_searcher = few.next_searcher;
+  next_collection = few.next_collection;
+  next_snapshots = noticed_few bound reading.readers few.next_snapshots;
 }

@@ -1,5 +1,5 @@
 -- Entries and names that are taken out: of maps, of sets, and of the open files.
-use Rattle.std.proofs.Common.{◌≡◌, true≢false, ℕ, suc, ◌+◌, ◌≤◌, inl, inr, Bool, true, false, cond, not, ◌&&◌, ◌||◌, List, [], ◌∷◌, ◌++◌, map, length, Option, Some, None, option_map, is_some, Result, Ok, refl, sym, ap, subst, ◌∙◌, arith}
+use Rattle.std.proofs.Common.{◌≡◌, true≢false, ℕ, suc, ◌≤◌, inl, inr, Bool, true, false, cond, not, ◌&&◌, ◌||◌, List, [], ◌∷◌, ◌++◌, map, length, Option, Some, None, option_map, is_some, Result, Ok, refl, sym, ap, subst, ◌∙◌, arith}
 use Rattle.std.specs.Prelude.{Contains}
 use Rattle.std.specs.List.{AllByRecursion, filter, list_all, list_any}
 use Rattle.std.proofs.lemmas.Bool.{and_right, or_right}
@@ -340,15 +340,16 @@ pub lens_cut : (bound : ℕ) (es new : List (List ℕ × List ℕ)) (test : List
 lens_cut bound es new test cut h = subst (AllByRecursion (λ e. length e.1 ≤ bound)) (sym cut) (all_left (λ e. length e.1 ≤ bound) es test h)
 
 -- where all else stays, only these parts are others
-pub others_stay : {O : Type 0} (new old : FilesState O) → new.outside ≡ old.outside → new.form ≡ old.form → new.managed ≡ old.managed → new.collections ≡ old.collections
+pub others_stay : {O : Type 0} (new old : FilesState O) → new.outside ≡ old.outside → new.form ≡ old.form → new.managed ≡ old.managed → new.collections ≡ old.collections → new.locked ≡ old.locked
     → new ≡ record old { open_files = new.open_files; left = new.left }
-others_stay {O} new old outside form managed collections =
-    ap (λ (o : O). files o new.form new.managed new.collections) outside
-    ∙ ap (λ (f : IndexForm). files old.outside f new.managed new.collections) form
-    ∙ ap (λ (names : List (List ℕ)). files old.outside old.form names new.collections) managed
-    ∙ ap (λ (c : Collections). files old.outside old.form old.managed c) collections where
-      files : O → IndexForm → List (List ℕ) → Collections → FilesState O
-      files o f names c = record { outside = o; form = f; managed = names; collections = c; open_files = new.open_files; left = new.left }
+others_stay {O} new old outside form managed collections locked =
+    ap (λ (o : O). files o new.form new.managed new.collections new.locked) outside
+    ∙ ap (λ (f : IndexForm). files old.outside f new.managed new.collections new.locked) form
+    ∙ ap (λ (names : List (List ℕ)). files old.outside old.form names new.collections new.locked) managed
+    ∙ ap (λ (c : Collections). files old.outside old.form old.managed c new.locked) collections
+    ∙ ap (λ (b : Bool). files old.outside old.form old.managed old.collections b) locked where
+      files : O → IndexForm → List (List ℕ) → Collections → Bool → FilesState O
+      files o f names c b = record { outside = o; form = f; managed = names; collections = c; open_files = new.open_files; left = new.left; locked = b }
 
 some_or : {X : Type 0} (b : Bool) (x : X) (rest : Option X) → is_some (cond b (Some x) rest) ≡ (b || is_some rest)
 some_or true x rest = refl

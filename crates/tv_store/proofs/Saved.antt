@@ -28,8 +28,9 @@ use Rattle.tv_store.proofs.Asking.{kept_by_files}
 use Rattle.tv_store.proofs.FilesHeld.{short_same}
 use Rattle.tv_store.proofs.Holding.{dotted_others, same_holds}
 use Rattle.tv_store.proofs.Listings.{undotted_isnt_list}
+use Rattle.tv_store.proofs.KeptLocks.{keeps_same}
 use Rattle.tv_store.proofs.Performing.{asks_only, no_lock}
-use Rattle.tv_catalog.specs.Actions.{after, first_open, unless_open}
+use Rattle.tv_catalog.specs.Actions.{after, first_open, unless_open, with_commit}
 use Rattle.tv_store.specs.Applying.{LeavesCommit, SavesPrinted}
 use Rattle.tv_store.specs.FileCalls.{Asked, KeepsOpenFiles}
 use Rattle.tv_store.specs.Kept.{FileHolds, FilesState, is_left, kept_of, names_below}
@@ -93,13 +94,13 @@ module _ {O W C : Type 0} (g : Ghosts O W C) (commit : Commit) (text : Vec ℕ G
       → (g.view new.outside).faults ≡ (g.view old.outside).faults → Performs g (actions.Save commit text required) old new (Ok (replies.Unsealed name))
   unsealed name among found quiet =
       asks_only g (actions.Save commit text required) old new (Ok (replies.Unsealed name)) (inr (name, among, refl)) (λ tells s h whole suits. (ap (unless_open commit) (found tells s h), refl, λ saved e. absurd cc))
-      (record { quiet = quiet; free = λ locks takes. absurd takes; fits = λ never. never; cause = tt }) asks (inl refl)
+      (record { quiet = quiet; free = λ locks takes. absurd takes; fits = λ never. never; cause = tt }) asks (inl refl) refl
 
   -- one can't be asked for
   pub unasked : (error : TantivyError) → EventCause (Rose (g.view old.outside).faults (g.view new.outside).faults) ((g.view new.outside).faults ≡ (g.view old.outside).faults) ⊥ error
       → Performs g (actions.Save commit text required) old new (Err error)
   unasked error cause =
-      asks_only g (actions.Save commit text required) old new (Err error) tt (λ tells s h whole suits. tt) (record { quiet = tt; free = λ locks takes. tt; fits = tt; cause = no_lock _ _ _ _ error cause }) asks (inl refl)
+      asks_only g (actions.Save commit text required) old new (Err error) tt (λ tells s h whole suits. tt) (record { quiet = tt; free = λ locks takes. tt; fits = tt; cause = no_lock _ _ _ _ error cause }) asks (inl refl) refl
 
 -- ---- what a save leaves
 
@@ -130,13 +131,16 @@ module _ {O W C : Type 0} (g : Ghosts O W C) (commit : Commit) (text : Vec ℕ G
   notes : FrameNotes g.told (g.view old.outside) (g.view new.outside)
   notes = notes_later asks.managed.below frame.below
 
-  kept : KeepsBy g.told (actions.Save commit text required) (g.view old.outside) (g.view new.outside)
+  locked : new.locked ≡ old.locked
+  locked = frame.locked ∙ asks.managed.locked
+
+  kept : KeepsBy g.told (actions.Save commit text required) old.locked new.locked (g.view old.outside) (g.view new.outside)
   kept = record {
     goes_on = notes.frame.tells_none.deletes_none.goes_on;
     deletes_none = λ none. notes.frame.tells_none.deletes_none;
     heard = notes.frame.tells_none.heard;
     room = notes.frame.tells_none.room;
-    locks = notes.frame.locks;
+    locks = λ tells. keeps_same old.locked new.locked _ _ (sym locked) (notes.frame.locks tells);
     watched = notes.watched;
   }
 
@@ -191,11 +195,13 @@ module _ {O W C : Type 0} (g : Ghosts O W C) (commit : Commit) (text : Vec ℕ G
         faults = record { quiet = tt; free = λ locks takes. tt; fits = tt; cause = no_lock _ refused quiet _ error cause };
         form = form;
         frame = kept;
+        keeps = tt;
+        stays = locked;
       }
 
   module _ (done : SavesMeta g (names_below mid) (names_below new) bytes) where
     -- the state after it is held
-    held_so : g.told.content → (s : State) → FilesHold g old s → FilesHold g new (record s { catalog = record s.catalog { next = s.catalog.next + 1; commit = commit } })
+    held_so : g.told.content → (s : State) → FilesHold g old s → FilesHold g new (record s { catalog = with_commit s.catalog commit })
     held_so tells s h =
         let now : FilesHold g mid s = still_held g old mid asks s tells h in
         let names : new.managed ≡ s.managed =
@@ -245,4 +251,6 @@ module _ {O W C : Type 0} (g : Ghosts O W C) (commit : Commit) (text : Vec ℕ G
       faults = record { quiet = quiet ∙ still; free = λ locks takes. absurd takes; fits = λ spent. spent; cause = tt };
       form = form;
       frame = kept;
+      keeps = locked;
+      stays = tt;
     }

@@ -1,7 +1,7 @@
 -- A validation, one file further.
 use Rattle.std.proofs.Common.{◌≡◌, ◌≤◌, ◌+◌, ℕ, false, List, [], ◌∷◌, ◌++◌, length, Option, Some, None, sym, ap, ◌∙◌, arith, append_assoc}
 use Rattle.tv_formats.specs.Commits.{Commit}
-use Rattle.tv_machine.specs.Lines.{line}
+use Rattle.tv_events.specs.AnswerLines.{line}
 use Rattle.tv_machine.specs.ReportEvents.{damaged_files, first_unreadable, intact_at}
 use Rattle.tv_machine.specs.State.{State, file_at}
 use Rattle.tv_catalog.proofs.SharedLaws.{line_len, words_len, words_append}

@@ -9,7 +9,7 @@ use Rattle.tv_formats.specs.Names.{meta_name}
 use Rattle.tv_formats.specs.Files.{Rose}
 use Rattle.tv_machine.specs.SoundStates.{IsWhole}
 use Rattle.tv_machine.specs.State.{State, StepResult}
-use Rattle.tv_machine.specs.declared.event.Event.{Event}
+use Rattle.tv_events.specs.declared.event.Event.{Event}
 use Rattle.tv_store.specs.Kept.{StoreState, AtMost, IsHeld}
 use Rattle.tv_catalog.specs.ReaderNumbers.{FewNumbers}
 use Rattle.tv_catalog.specs.Effects.{written_by}

@@ -16,15 +16,15 @@ use Rattle.tv_machine.specs.Living.{is_busy}
 use Rattle.tv_formats.specs.Meaning.{Means}
 use Rattle.tv_formats.specs.Segments.{all_required}
 use Rattle.tv_machine.specs.State.{State}
-use Rattle.tv_machine.specs.declared.event.Event.{Event}
-use Rattle.tv_machine.specs.declared.event.Event.TheVariants as events
+use Rattle.tv_events.specs.declared.event.Event.{Event}
+use Rattle.tv_events.specs.declared.event.Event.TheVariants as events
 use Rattle.tv_machine.specs.SoundStates.{IsWhole}
 use Rattle.tv_machine.specs.Machine.{Turn, catalog_step, step, refused_in}
 use Rattle.tv_machine.specs.Readable.{ReadsGood, read_by}
 use Rattle.tv_managed.specs.Collecting.{meta_lock_name}
 use Rattle.tv_catalog.specs.Kept.{KeptState}
 use Rattle.tv_store.specs.Kept.{StoreState, Holds, AtMost, IsHeld}
-use Rattle.tv_catalog.specs.Effects.{LoadsCommit, TakesMetaLock, written_by, WritesByStep}
+use Rattle.tv_catalog.specs.Effects.{LoadsCommit, ReadsFiles, TakesMetaLock, written_by, WritesByStep}
 use Rattle.tv_catalog.specs.Exhausted.{IsExhausted}
 use Rattle.tv_catalog.specs.ReaderNumbers.{FewNumbers}
 use Rattle.tv_store.specs.Bodies.{MeetsBadFile}
@@ -121,12 +121,12 @@ UnloadedAt g old new event error =
 -- the event reads the files of a commit, of which one is refused with this error
 abbrev pub RefusedAt : {O W C : Type 0} → Ghosts O W C → (old : StoreState O) → Event → OpenReadError → Type 0
 RefusedAt g old event error =
-    LoadsCommit old.kept.catalog event × BadIn g.told.content (g.view old.outside).reads old.kept event error
+    ReadsFiles old.kept.catalog event × BadIn g.told.content (g.view old.outside).reads old.kept event error
 
 -- the event reads the files of a commit, of which one isn't there
 abbrev pub GoneAt : {O W C : Type 0} → Ghosts O W C → (old : StoreState O) → Event → Type 0
 GoneAt g old event =
-    LoadsCommit old.kept.catalog event × HoldsNone g.told.content (g.view old.outside).reads old.kept
+    ReadsFiles old.kept.catalog event × HoldsNone g.told.content (g.view old.outside).reads old.kept
 
 -- what is known of an event, by which its error is explained; `spent` says that a number or the
 -- length of a file would pass 64 bits
@@ -154,15 +154,15 @@ ActCause g old new event =
     (UnloadedAt g old new event)
 
 -- At Ok the device refused no call but deletes, the lock that the event takes was free, and no number and no
--- length passes 64 bits; the lock was free too where a file wasn't read, or `meta.json` was refused; and why
--- the event failed.
+-- length passes 64 bits; the lock that it takes was free too where a file wasn't read, or `meta.json` was
+-- refused; and why the event failed.
 pub record ApplyFaults {O W C : Type 0} (g : Ghosts O W C) (old new : StoreState O) (event : Event)
     (result : Result (List ℕ) TantivyError) : Type 0 where
   pub quiet : OnOk result ((g.view new.outside).faults ≡ (g.view old.outside).faults)
   pub free : g.told.locks → TakesMetaLock old.kept.catalog event
       → OnOk result ((g.view old.outside).locks meta_lock_name ≡ false)
   pub fits : OnOk result (IsExhausted old.kept event → ⊥)
-  pub reads : g.told.locks
+  pub reads : g.told.locks → TakesMetaLock old.kept.catalog event
       → IfErr result (λ error. IsReadError error → (g.view old.outside).locks meta_lock_name ≡ false)
   pub cause : IfErr result (ActCause g old new event)
 

@@ -7,10 +7,11 @@ use Rattle.tv_device.specs.declared.directory.Directory.{Ghosts}
 use Rattle.tv_formats.specs.Disk.{Sealed, Throughout, possible_now}
 use Rattle.tv_formats.specs.Names.{has}
 use Rattle.tv_formats.specs.Segments.{all_required}
+use Rattle.tv_machine.specs.Living.{is_busy}
 use Rattle.tv_machine.specs.Machine.{step}
 use Rattle.tv_machine.specs.SoundStates.{IsWhole}
 use Rattle.tv_machine.specs.State.{SealedFile, State, file_at}
-use Rattle.tv_machine.specs.declared.event.Event.{Event}
+use Rattle.tv_events.specs.declared.event.Event.{Event}
 use Rattle.tv_managed.specs.Crashes.{AreListed, IsTracked}
 use Rattle.tv_catalog.specs.Actions.{Suits, after, reply_in}
 use Rattle.tv_store.specs.Kept.{FilesState, IsHeld, StoreState, kept_of, names_below}
@@ -57,7 +58,7 @@ PerformsSafely g action old new result =
     → CanPerform (kept_of s.catalog old) action → IsDurable g old s
     → LeavesStored g action old new s result
 
--- the files of a store
+-- the files of a store, which keeps the meta lock where a reload waits for its files
 abbrev pub store_files : {O : Type 0} → StoreState O → FilesState O
 store_files store = record {
   outside = store.outside;
@@ -66,6 +67,7 @@ store_files store = record {
   collections = store.kept.collections;
   open_files = store.kept.open_files;
   left = store.kept.left;
+  locked = is_busy store.kept.catalog;
 }
 
 -- An event's step was made from this state, and its line is yet to be told: at each moment a crash leaves

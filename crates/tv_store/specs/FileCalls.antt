@@ -137,11 +137,13 @@ SavesSafely g old new text result =
     (names_below old).1 (giving meta_name text) errors.Memory result)
     (names_below old) (names_below new)
 
--- The settings and the schema stay, and the unfinished collections; no file was opened, written, closed or
--- left, and no lock was taken or freed; a notice of a commit may stand.
+-- The settings and the schema stay, whether the meta lock is kept for a reload, and the unfinished
+-- collections; no file was opened, written, closed or left, and no lock was taken or freed; a notice of a
+-- commit may stand.
 pub record KeepsOpenFiles {O W : Type 0} (told : Told) (view : O → View W)
     (old new : FilesState O) : Type 0 where
   pub form : new.form ≡ old.form
+  pub locked : new.locked ≡ old.locked
   pub collections : new.collections ≡ old.collections
   pub open_files : new.open_files ≡ old.open_files
   pub left : new.left ≡ old.left

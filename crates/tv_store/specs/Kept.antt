@@ -24,7 +24,8 @@ pub record StoreState (O : Type 0) : Type 0 where
   pub standing : Standing
 
 -- the files of a store: its directory, its index's settings and schema, the managed names, the unfinished
--- collections, what was written to each open file, and the files that were left
+-- collections, what was written to each open file, the files that were left, and whether the meta lock is
+-- kept for a reload
 pub record FilesState (O : Type 0) : Type 0 where
   pub outside : O
   pub form : IndexForm
@@ -32,6 +33,7 @@ pub record FilesState (O : Type 0) : Type 0 where
   pub collections : Collections
   pub open_files : List (List ℕ × List ℕ)
   pub left : List (List ℕ)
+  pub locked : Bool
 
 -- the directory, with what is kept of its names
 abbrev pub names_below : {O : Type 0} → FilesState O → O × ManagedNames

@@ -13,6 +13,7 @@ pub mod Reopening
 pub mod Performing
 pub mod Durable
 pub mod SnapshotCalls
+pub mod ReloadLocks
 pub mod Acting
 pub mod OpeningCauses
 pub mod Making

@@ -1,5 +1,5 @@
 -- How an index is found and shown, or isn't.
-use Rattle.std.specs.Prelude.{ℕ, ◌≡◌, ◌⊎◌, true, List, [], Some, option_map, string_bytes, Result, IfErr, OnOk, OnErr}
+use Rattle.std.specs.Prelude.{ℕ, ◌≡◌, ◌⊎◌, true, false, List, [], Some, option_map, string_bytes, Result, IfErr, OnOk, OnErr}
 use Rattle.tv_base.specs.declared.error.DataCorruption.{DataCorruption}
 use Rattle.tv_base.specs.declared.error.TantivyError.{TantivyError}
 use Rattle.tv_base.specs.declared.error.TantivyError.TheVariants as errors
@@ -73,7 +73,8 @@ pub record IsPlanned (catalog : Catalog) (required : List (List ℕ)) (line : Li
   pub tells : line ≡ opening_of catalog.commit
 
 -- The index that stands in this directory was found, or a new one was made, of which a notice stands:
--- its settings and its schema, its catalog, and its files, none of them open; no collection was begun.
+-- its settings and its schema, its catalog, and its files, none of them open; no collection was begun, and no
+-- lock is kept for a reload.
 pub record FindsFiles {O W C : Type 0} (g : Ghosts O W C) (locked : O) (schema : List ℕ)
     (catalog : Catalog) (files : FilesState O) : Type 0 where
   pub schema_is : files.form.schema ≡ schema
@@ -87,6 +88,7 @@ pub record FindsFiles {O W C : Type 0} (g : Ghosts O W C) (locked : O) (schema :
   pub open_files : files.open_files ≡ []
   pub left : files.left ≡ []
   pub collections : files.collections ≡ no_collections
+  pub unlocked : files.locked ≡ false
   pub quiet : (g.view files.outside).faults ≡ (g.view locked).faults
   pub notes : NotesMade g.told (g.view locked) (g.view files.outside)
   pub frame : FrameNotesFirst g.told (g.view locked) (g.view files.outside)

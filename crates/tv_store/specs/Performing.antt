@@ -4,7 +4,6 @@ use Rattle.std.specs.List.{AllByRecursion}
 use Rattle.tv_base.specs.declared.error.TantivyError.{TantivyError}
 use Rattle.tv_base.specs.declared.error.TantivyError.TheVariants as errors
 use Rattle.tv_base.specs.declared.open_errors.OpenReadError.{OpenReadError}
-use Rattle.tv_device.specs.Locks.{SameLocks}
 use Rattle.tv_device.specs.View.{DeletesNone, GoesOn, Told, View}
 use Rattle.tv_device.specs.declared.directory.Directory.{Ghosts}
 use Rattle.tv_formats.specs.Commits.{Commit}
@@ -12,15 +11,15 @@ use Rattle.tv_formats.specs.Files.{Rose, RoseBy}
 use Rattle.tv_formats.specs.Names.{meta_name}
 use Rattle.tv_formats.specs.Segments.{all_required}
 use Rattle.tv_machine.specs.Machine.{refused_in}
-use Rattle.tv_machine.specs.Readable.{CanRead}
+use Rattle.tv_machine.specs.Readable.{AreGoodFiles}
 use Rattle.tv_machine.specs.SoundStates.{IsWhole}
 use Rattle.tv_machine.specs.State.{State}
 use Rattle.tv_managed.specs.Collecting.{meta_lock_name}
-use Rattle.tv_catalog.specs.Actions.{AppendsSome, MayGive, OnlyKeeps, SavesNoCommit, SpentBy, Suits, LocksMeta, TriesDeletes, added_by, after, given_by, reply_in}
-use Rattle.tv_store.specs.Applying.{LeavesAlone, LeavesCommit, SavesPrinted, UnloadedFor}
+use Rattle.tv_catalog.specs.Actions.{AppendsSome, IsNoted, MayGive, OnlyKeeps, SavesNoCommit, SpentBy, Suits, LocksMeta, TriesDeletes, added_by, after, given_by, keeps_lock, reply_in}
+use Rattle.tv_store.specs.Applying.{KeepsLocks, LeavesAlone, LeavesCommit, SavesPrinted, UnloadedFor}
 use Rattle.tv_store.specs.Bodies.{MeetsBadFile}
 use Rattle.tv_store.specs.Kept.{FilesState, Holds, kept_of}
-use Rattle.tv_store.specs.ReadCauses.{IsReadError, LoadingCause, ReadFacts, reading_facts}
+use Rattle.tv_store.specs.ReadCauses.{ApplyCause, IsReadError, LoadingCause, ReadFacts, reading_facts}
 use Rattle.tv_store.specs.Stays.{KeepsDotted}
 use Rattle.tv_store.specs.StoreCauses.{IsBusy, LockingCause}
 use Rattle.tv_catalog.specs.declared.action.Action.{Action}
@@ -56,6 +55,18 @@ loading_facts g old new =
     ((g.view new.outside).faults ≡ (g.view old.outside).faults)
     (LacksFile g old) (λ path. HoldNone g old)
 
+-- where the content is told, this commit, which a reload has noted in each whole state that these files hold,
+-- requires a file that can't be read, of which the first is refused with this error
+abbrev pub LacksFileOf : {O W C : Type 0} → Ghosts O W C → FilesState O → Commit → OpenReadError → Type 0
+LacksFileOf g files commit error =
+    g.told.content → (s : State) → FilesHold g files s → IsWhole s → IsNoted s.catalog commit
+    → MeetsBadFile s (all_required commit.segments) error
+
+-- where the content is told, these files hold no whole state in which a reload has noted this commit
+abbrev pub HoldNoneWith : {O W C : Type 0} → Ghosts O W C → FilesState O → Commit → Type 0
+HoldNoneWith g files commit =
+    g.told.content → (s : State) → FilesHold g files s → IsWhole s → IsNoted s.catalog commit → ⊥
+
 -- A call that takes the meta lock and loads a commit with its files fails where the lock isn't given, the
 -- commit isn't loaded or a file isn't read. The lock was free if it is given; only then is `meta.json` read,
 -- or a file.
@@ -87,27 +98,43 @@ pub record Performed {O W C : Type 0} (g : Ghosts O W C) (action : Action) (old 
       → SavesPrinted old.form (g.view old.outside) (g.view new.outside) commit
 
 -- What performing an action leaves of the directory: writers go on, nothing was told, the room for a line
--- didn't shrink, no lock was taken or freed, and nobody was registered or called. Unless it tries to delete
--- files, no writer lost its file, and no delete was refused. A notice comes by a save.
-pub record KeepsBy {W : Type 0} (told : Told) (action : Action) (old new : View W) : Type 0 where
+-- didn't shrink, no lock was taken or freed but the one that is kept for a reload, and nobody was registered
+-- or called. Unless it tries to delete files, no writer lost its file, and no delete was refused. A notice
+-- comes by a save.
+pub record KeepsBy {W : Type 0} (told : Told) (action : Action) (was_locked now_locked : Bool)
+    (old new : View W) : Type 0 where
   pub goes_on : GoesOn told old new
   pub deletes_none : (TriesDeletes action → ⊥) → DeletesNone told old new
   pub heard : new.heard ≡ old.heard
   pub room : old.room ≤ new.room
-  pub locks : told.locks → SameLocks old.locks new.locks
+  pub locks : told.locks → KeepsLocks was_locked now_locked old.locks new.locks
   pub watched : MayNoteBy action old.watched new.watched
 
 -- What a load of the current commit promises of its errors; and at Ok the files of that commit can be read.
 pub record LoadsOrFails {O W C : Type 0} (g : Ghosts O W C) (old new : FilesState O)
     (result : Result Reply TantivyError) : Type 0 where
   pub faults : LoadFaults g old new result
-  pub readable : g.told.content → (s : State) → FilesHold g old s → IsWhole s → OnOk result (CanRead s)
+  pub readable : g.told.content → (s : State) → FilesHold g old s → IsWhole s
+      → OnOk result (AreGoodFiles s (all_required s.catalog.commit.segments))
 
--- Why an action fails: one that loads the current commit for the causes of a load, any other because a lock
--- that it takes isn't given, or as events do that read no file.
+-- What a read of the files of a commit that a reload has noted promises of its errors; and at Ok these files
+-- can be read.
+pub record ReadsOrFails {O W C : Type 0} (g : Ghosts O W C) (commit : Commit) (old new : FilesState O)
+    (result : Result Reply TantivyError) : Type 0 where
+  pub cause : IfErr result (ApplyCause (reading_facts
+      (Rose (g.view old.outside).faults (g.view new.outside).faults)
+      ((g.view new.outside).faults ≡ (g.view old.outside).faults)
+      (LacksFileOf g old commit) (λ path. HoldNoneWith g old commit)))
+  pub readable : g.told.content → (s : State) → FilesHold g old s → IsWhole s → IsNoted s.catalog commit
+      → OnOk result (AreGoodFiles s (all_required commit.segments))
+
+-- Why an action fails: one that loads the current commit for the causes of a load, one that reads the files of
+-- another for those of such a read, any other because a lock that it takes isn't given, or as events do that
+-- read no file.
 abbrev pub FailsBy : {O W C : Type 0} → Ghosts O W C → Action → (old new : FilesState O)
     → Result Reply TantivyError → Type 0
 FailsBy g (actions.Load generation) old new result = LoadsOrFails g old new result
+FailsBy g (actions.Read commit) old new result = ReadsOrFails g commit old new result
 FailsBy g other old new result = IfErr result (LockingCause
     (LocksMeta other × IsBusy g.told.locks ((g.view old.outside).locks meta_lock_name ≡ true)
     (Rose (g.view old.outside).faults (g.view new.outside).faults))
@@ -150,7 +177,8 @@ pub record MetaBy {O W C : Type 0} (g : Ghosts O W C) (action : Action) (old new
 -- rose: what came of it, from each whole state that was held and that suits it. What it leaves in
 -- `meta.json`. No file with a dot in front was changed but the list; no open file is longer than the longest
 -- was and what is added, and the number that the next collection gets is no higher than what was and what the
--- action gives; when it fails; and what it kept.
+-- action gives; when it fails; what it kept; and at Ok the meta lock is kept for a reload as the action says,
+-- after an error as it was.
 pub record Performs {O W C : Type 0} (g : Ghosts O W C) (action : Action) (old new : FilesState O)
     (result : Result Reply TantivyError) : Type 0 where
   pub gives : IfOk result (MayGive old.collections old.managed action)
@@ -166,4 +194,6 @@ pub record Performs {O W C : Type 0} (g : Ghosts O W C) (action : Action) (old n
   pub numbers : OnOk result (new.collections.next ≤ old.collections.next + given_by action)
   pub faults : FaultsBy g action old new result
   pub form : new.form ≡ old.form
-  pub frame : KeepsBy g.told action (g.view old.outside) (g.view new.outside)
+  pub frame : KeepsBy g.told action old.locked new.locked (g.view old.outside) (g.view new.outside)
+  pub keeps : OnOk result (new.locked ≡ keeps_lock action old.locked)
+  pub stays : OnErr result (new.locked ≡ old.locked)

@@ -10,18 +10,20 @@ use Rattle.tv_device.specs.Watch.{MayNote}
 use Rattle.tv_store.specs.Kept.{FilesState, StoreState}
 use Rattle.tv_store.specs.StoreCauses.{EventCause, MakesNoFile}
 
--- Of the files of a store: the index's settings and schema stay, and of the directory below what such a call
--- keeps.
+-- Of the files of a store: the index's settings and schema stay, and whether the meta lock is kept for a
+-- reload, and of the directory below what such a call keeps.
 pub record KeepsForm {O W : Type 0} (keeps : View W → View W → Type 0) (view : O → View W)
     (old new : FilesState O) : Type 0 where
   pub form : new.form ≡ old.form
+  pub locked : new.locked ≡ old.locked
   pub below : keeps (view old.outside) (view new.outside)
 
--- Of the files of a store: the index's settings and schema stay, and the unfinished collections, and of the
--- directory below what such a call keeps.
+-- Of the files of a store: the index's settings and schema stay, whether the meta lock is kept for a reload,
+-- and the unfinished collections, and of the directory below what such a call keeps.
 pub record KeepsMade {O W : Type 0} (keeps : View W → View W → Type 0) (view : O → View W)
     (old new : FilesState O) : Type 0 where
   pub form : new.form ≡ old.form
+  pub locked : new.locked ≡ old.locked
   pub collections : new.collections ≡ old.collections
   pub below : keeps (view old.outside) (view new.outside)
 
@@ -29,6 +31,7 @@ pub record KeepsMade {O W : Type 0} (keeps : View W → View W → Type 0) (view
 pub record KeepsManaged {O W : Type 0} (keeps : View W → View W → Type 0) (view : O → View W)
     (old new : FilesState O) : Type 0 where
   pub form : new.form ≡ old.form
+  pub locked : new.locked ≡ old.locked
   pub names : new.managed ≡ old.managed
   pub collections : new.collections ≡ old.collections
   pub left : new.left ≡ old.left

@@ -12,7 +12,7 @@ use Rattle.tv_machine.specs.Index.{OpenedIndex}
 use Rattle.tv_machine.specs.Machine.{step}
 use Rattle.tv_machine.specs.SoundStates.{IsWhole}
 use Rattle.tv_machine.specs.State.{State}
-use Rattle.tv_machine.specs.declared.event.Event.{Event}
+use Rattle.tv_events.specs.declared.event.Event.{Event}
 use Rattle.tv_managed.specs.declared.managed_directory.Refused.{Refused}
 use Rattle.tv_store.specs.Durable.{IsDurable, store_files}
 use Rattle.tv_store.specs.Kept.{IsHeld, StoreState}

@@ -1,6 +1,6 @@
 //! The files of an index: the index, the writers of the files that are open, and the names of those
 //! that were left.
-ghost use Rattle.std.specs.Prelude.{◌≡◌, ◌≢◌, ◌≤◌, ◌<◌, ◌+◌, ◌^◌, ◌++◌, [], List, ℕ, true, false, length, Option, Some, None, IsSome, is_some, option_map, IfErr, IfOk, OnOk, OnErr, map, string_bytes};
+ghost use Rattle.std.specs.Prelude.{◌≡◌, ◌≢◌, ◌≤◌, ◌<◌, ◌+◌, ◌^◌, ◌++◌, [], List, ℕ, true, false, length, Option, Some, None, IsSome, is_some, option_map, IfErr, IfOk, OnOk, OnErr, is_ok, map, string_bytes};
 ghost use Rattle.std.specs.List.{list_all, AllByRecursion};
 ghost use Rattle.std.specs.Map.{remove_entry, set_value};
 ghost use Rattle.std.specs.BTreeMap.{is_at, insert_entry};
@@ -13,6 +13,7 @@ ghost use Rattle.tv_device.specs.Calls.{DeviceFaults, Frees, LockFaults, Acquire
 ghost use Rattle.tv_device.specs.Images.{KeepsDisk};
 ghost use Rattle.tv_device.specs.View.{Kept, OnlyReads, OnlyLocks, OnlyTells};
 ghost use Rattle.tv_machine.specs.Index.{IsFileOf};
+ghost use Rattle.tv_managed.specs.Collecting.{meta_lock_name};
 ghost use Rattle.tv_managed.specs.Crashes.{ReadsSafely};
 ghost use Rattle.tv_managed.specs.Managed.{KeepsOtherFiles};
 ghost use Rattle.tv_managed.specs.Reading.{ReadsBody};
@@ -23,6 +24,7 @@ ghost use Rattle.tv_index.specs.Saving.{SavesMeta};
 ghost use Rattle.tv_metas.specs.Settings.{settings_view};
 ghost use Rattle.tv_index.specs.Standing.{LoadsMeta, MetaFaults};
 ghost use Rattle.tv_store.specs.Kept.{names_below};
+ghost use Rattle.tv_store.specs.ReloadLocks.{GivesBack, KeepsAllButLock};
 ghost use Rattle.tv_store.specs.Stays.{KeepsFiles, KeepsMade, OnlyWrites, EventFaults, Faults};
 ghost use Rattle.tv_store.specs.Telling.{TriesLine};
 
@@ -30,7 +32,7 @@ use std::alloc::Global;
 use std::collections::{BTreeMap, BTreeSet};
 use std::marker::Model;
 use tv_base::{FileSlice, IoFault, IoKind, LockError, OpenReadError, OpenWriteError, TantivyError};
-use tv_device::{Directory, DirectoryLock, Lock, Outside};
+use tv_device::{Directory, DirectoryLock, Lock, Outside, meta_lock};
 use tv_formats::{FileName, Memory};
 use tv_index::{Index, IndexSettings, Schema, UntrackedIndexMeta, save_meta_text};
 use tv_machine::Answer;
@@ -43,9 +45,26 @@ pub(crate) struct OpenFile<D: Directory> {
     pub(crate) len: u64,
 }
 
+/// The meta lock, which is held.
+#[derive(Drop)]
+pub(crate) struct MetaLock {
+    lock: DirectoryLock,
+}
+
+impl Model for MetaLock {
+    ghost use Rattle.std.specs.Prelude.{◌≡◌, List, ℕ};
+    ghost use Rattle.tv_managed.specs.Collecting.{meta_lock_name};
+
+    ghost Value = { List ℕ };
+
+    ghost view = { λ a. a.lock };
+
+    ghost invariant = { λ a. a.lock ≡ meta_lock_name };
+}
+
 /// An index and its open files. To a contract it is the directory, the index's settings and schema, the
-/// managed names, the unfinished collections, what was written to each open file, and the files that
-/// were left.
+/// managed names, the unfinished collections, what was written to each open file, the files that were
+/// left, and whether the meta lock is kept for a reload.
 pub(crate) struct StoreFiles<O: Outside> {
     pub(crate) index: Index<O>,
     pub(crate) files: BTreeMap<FileName, OpenFile<O>>,
@@ -53,10 +72,12 @@ pub(crate) struct StoreFiles<O: Outside> {
     pub(crate) left: BTreeSet<FileName>,
     // Found to be there, and not deleted since: the device isn't asked for them again. Some may be missing.
     pub(crate) known: BTreeSet<FileName>,
+    // The meta lock, while it is kept for a reload.
+    pub(crate) reload_lock: Option<MetaLock>,
 }
 
 impl<O: Outside> Model for StoreFiles<O> {
-    ghost use Rattle.std.specs.Prelude.{map};
+    ghost use Rattle.std.specs.Prelude.{is_some, map};
     ghost use Rattle.std.specs.List.{AllByRecursion};
     ghost use Rattle.std.specs.Prelude.{◌≡◌, false};
     ghost use Rattle.tv_formats.specs.Collections.{held};
@@ -75,6 +96,7 @@ impl<O: Outside> Model for StoreFiles<O> {
       open_files = map
           (λ e. (e.0, (O.state_of e.1.writer.writer).written)) a.files.entries;
       left = a.left.keys;
+      locked = is_some a.reload_lock;
     } };
 
     ghost invariant = { λ a. AllByRecursion
@@ -127,6 +149,7 @@ impl<O: Outside> StoreFiles<O> {
           collections = index.directory.1.collections;
           open_files = [];
           left = [];
+          locked = false;
         } }
     {
         StoreFiles {
@@ -134,6 +157,7 @@ impl<O: Outside> StoreFiles<O> {
             files: BTreeMap::new(alloc),
             left: BTreeSet::new(alloc),
             known: BTreeSet::new(alloc),
+            reload_lock: None,
         }
     }
 
@@ -146,6 +170,7 @@ impl<O: Outside> StoreFiles<O> {
             files: _,
             left: _,
             known: _,
+            reload_lock: _,
         } = self;
         index.into_directory()
     }
@@ -210,6 +235,35 @@ impl<O: Outside> StoreFiles<O> {
             → KeepsDisk (O.disk self.old.outside) (O.disk self.new.outside) }
     {
         self.index.directory_mut().release(lock);
+    }
+
+    /// Takes the meta lock, and keeps it for a reload.
+    pub(crate) fn keep_lock(&mut self) -> Result<(), LockError>
+        requires { self.old.locked ≡ false }
+        ensures acquires { Acquires O.told (O.view self.old.outside)
+            (O.view self.new.outside) meta_lock_name result }
+        ensures faults { LockFaults O.told (O.view self.old.outside)
+            (O.view self.new.outside) meta_lock_name result }
+        ensures frame { KeepsAllButLock (OnlyLocks O.told) O.view (is_ok result)
+            self.old self.new }
+        ensures images { O.tells_images
+            → KeepsDisk (O.disk self.old.outside) (O.disk self.new.outside) }
+    {
+        let lock = self.acquire_lock(&meta_lock())?;
+        self.reload_lock = Some(MetaLock { lock });
+        Ok(())
+    }
+
+    /// Gives the meta lock back, where it is kept for a reload. Takes no memory.
+    pub(crate) fn give_back(&mut self)
+        ensures gives { KeepsAllButLock (GivesBack O.told self.old.locked) O.view false
+            self.old self.new }
+        ensures images { O.tells_images
+            → KeepsDisk (O.disk self.old.outside) (O.disk self.new.outside) }
+    {
+        if let Some(MetaLock { lock }) = self.reload_lock.take() {
+            self.release(lock);
+        }
     }
 
     /// Whether a file is there, isn't open and wasn't left. The device isn't asked for one that is known.

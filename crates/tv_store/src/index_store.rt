@@ -1,9 +1,10 @@
 //! An index that is open, under the lock of the one who writes it.
 ghost use Rattle.std.specs.Prelude.{◌≡◌, ◌<◌, is_ok, None, true, length, IfOk, IfErr, IsSome, OnErr};
+ghost use Rattle.tv_machine.specs.Living.{is_busy};
 ghost use Rattle.tv_machine.specs.Machine.{catalog_step};
 ghost use Rattle.tv_machine.specs.SoundStates.{IsWhole};
 ghost use Rattle.tv_machine.specs.State.{State};
-ghost use Rattle.tv_device.specs.Calls.{DeviceFaults, Frees};
+ghost use Rattle.tv_device.specs.Calls.{DeviceFaults};
 ghost use Rattle.tv_device.specs.Images.{KeepsDisk};
 ghost use Rattle.tv_device.specs.View.{OnlyReads, OnlyTells};
 ghost use Rattle.tv_store.specs.Acting.{Acts};
@@ -11,6 +12,7 @@ ghost use Rattle.tv_store.specs.Durable.{ActsSafely, IsDurable, store_files};
 ghost use Rattle.tv_store.specs.Applying.{Stepped, LeavesMeta, Grows, ApplyFaults, AppliesFrame, AsksNoFile, IsUndisturbedEvent};
 ghost use Rattle.tv_store.specs.Kept.{Holds, IsHeld};
 ghost use Rattle.tv_store.specs.Opening.{Opens, LeavesIndex, TellsOpening, TakesWriterLock, OpeningFaults, OpeningFrame, OpensOrRefuses, OpensSafely};
+ghost use Rattle.tv_store.specs.ReloadLocks.{FreesLocks};
 ghost use Rattle.tv_store.specs.StoreCauses.{writer_lock_name};
 ghost use Rattle.tv_store.specs.Surviving.{SurvivesEvent, SurvivesOpening};
 ghost use Rattle.tv_store.specs.Telling.{TellsAnswer, TriesLine};
@@ -42,6 +44,7 @@ pub struct IndexStore<O: Outside> {
 
 impl<O: Outside> Model for IndexStore<O> {
     ghost use Rattle.std.specs.Prelude.{◌≡◌};
+    ghost use Rattle.tv_machine.specs.Living.{is_busy};
     ghost use Rattle.tv_store.specs.Kept.{StoreState, kept_of};
     ghost use Rattle.tv_store.specs.StoreCauses.{writer_lock_name};
 
@@ -53,14 +56,17 @@ impl<O: Outside> Model for IndexStore<O> {
       standing = record { is_open = a.is_open };
     } };
 
-    ghost invariant = { λ a. a.lock ≡ writer_lock_name };
+    ghost invariant = { λ a. (a.lock ≡ writer_lock_name)
+        × (a.files.locked ≡ is_busy a.catalog) };
 }
 
-// The directory of these files, with the lock of this token free.
+// The directory of these files, with the lock of this token free, and that of a reload.
 fn close<O: Outside>(files: StoreFiles<O>, lock: DirectoryLock) -> O
-    ensures frees { Frees O.told lock (O.view files.outside) (O.view result) }
+    ensures frees { FreesLocks O.told lock files.locked (O.view files.outside) (O.view result) }
     ensures images { O.tells_images → KeepsDisk (O.disk files.outside) (O.disk result) }
 {
+    let mut files = files;
+    files.give_back();
     let mut directory = files.into_outside();
     directory.release(lock);
     directory
@@ -203,9 +209,11 @@ impl<O: Outside> IndexStore<O> {
         self.is_open
     }
 
-    /// The directory, whose writer lock is free. Takes no memory.
+    /// The directory, whose writer lock is free, and so is the meta lock where a reload waited for its
+    /// files. Takes no memory.
     pub fn into_outside(self) -> O
-        ensures frees { Frees O.told writer_lock_name (O.view self.outside) (O.view result) }
+        ensures frees { FreesLocks O.told writer_lock_name (is_busy self.kept.catalog)
+            (O.view self.outside) (O.view result) }
         // It holds each state that it held.
         ensures holds { O.told.content → (s : State)
             → IsHeld O.Directory self s

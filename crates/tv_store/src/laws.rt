@@ -3,6 +3,7 @@
 mod crashes;
 mod events;
 mod opening;
+mod reloads;
 mod saving;
 
 pub use crashes::{
@@ -17,4 +18,8 @@ pub use events::{
 pub use opening::{
     frees_its_lock_at_the_end, leaves_locks_as_they_were, names_and_spares_refused_bytes,
     spares_a_locked_directory, tells_damage_before_a_held_lock, writes_nothing_before_its_lock,
+};
+pub use reloads::{
+    a_refused_deliver_ends_no_notice, a_reload_ends_no_notice, frees_the_lock_of_a_released_reader,
+    holds_the_lock_for_a_reload, notes_the_current_commit, publishes_what_was_noted,
 };

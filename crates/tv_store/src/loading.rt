@@ -1,11 +1,11 @@
-//! The current commit is loaded, with the bodies of its files.
+//! A commit is loaded, with the bodies of its files.
 ghost use Rattle.std.specs.Prelude.{◌≡◌, Some, map, IfOk, OnOk};
 ghost use Rattle.tv_device.specs.Images.{KeepsDisk};
 ghost use Rattle.tv_device.specs.View.{OnlyReads};
 ghost use Rattle.tv_formats.specs.Segments.{all_required, required_names};
 ghost use Rattle.tv_index.specs.Standing.{MetaFaults};
-ghost use Rattle.tv_machine.specs.Readable.{CanRead};
-ghost use Rattle.tv_machine.specs.ReaderEvents.{snapshot_in};
+ghost use Rattle.tv_machine.specs.Readable.{AreGoodFiles};
+ghost use Rattle.tv_machine.specs.ReaderEvents.{bodies_in, snapshot_in};
 ghost use Rattle.tv_machine.specs.SoundStates.{IsWhole};
 ghost use Rattle.tv_machine.specs.State.{State};
 ghost use Rattle.tv_store.specs.Bodies.{AreBodies, AreGood, AreSealed, ReadsSegment, ReadsSegments};
@@ -16,11 +16,11 @@ ghost use Rattle.tv_store.specs.Stays.{KeepsFiles};
 use crate::files::StoreFiles;
 use std::alloc::Global;
 use tv_base::{FileSlice, TantivyError};
-use tv_catalog::commit::Commit;
-use tv_catalog::names::required_of;
-use tv_catalog::snapshot::{SegmentReader, Snapshot};
 use tv_device::{Outside, meta_lock};
 use tv_formats::{FileName, LiveSegment, SegmentId};
+use tv_snapshots::commit::Commit;
+use tv_snapshots::names::required_of;
+use tv_snapshots::snapshot::{SegmentReader, Snapshot};
 
 // The bodies of some sealed files, in their order.
 fn read_bodies<O: Outside>(
@@ -120,6 +120,33 @@ fn read_commit<O: Outside>(alloc: Global, files: &mut StoreFiles<O>) -> Result<C
     Ok(commit)
 }
 
+/// A commit with the bodies of its files, under this number, as they read now.
+pub(crate) fn read_files<O: Outside>(
+    alloc: Global,
+    files: &mut StoreFiles<O>,
+    generation: u64,
+    commit: Commit,
+) -> Result<Snapshot, TantivyError>
+    ensures shown { O.told.content → (s : State)
+        → FilesHold O.Directory files.old s
+        → AreSealed s (all_required commit.segments)
+        → IfOk result (λ shown. (shown ≡ record {
+          generation = generation;
+          commit = commit;
+          bodies = bodies_in s commit;
+        }) × AreGoodFiles s (all_required commit.segments)) }
+    ensures faults { BodiesFaults O.Directory files.old.outside files.new.outside
+        (all_required commit.segments) result }
+    ensures frame { KeepsFiles (OnlyReads O.told) O.view files.old files.new }
+    ensures images { O.tells_images
+        → KeepsDisk (O.disk files.old.outside) (O.disk files.new.outside) }
+{
+    let segments = commit.segments(alloc)?;
+    let readers = read_segments(alloc, files, segments.as_slice())?;
+    let shown = Snapshot::new(alloc, generation, commit, readers)?;
+    Ok(shown)
+}
+
 // The commit that `meta.json` means with the bodies of its files, under this number, as they read now.
 fn read_snapshot<O: Outside>(
     alloc: Global,
@@ -128,16 +155,15 @@ fn read_snapshot<O: Outside>(
 ) -> Result<Snapshot, TantivyError>
     ensures shown { O.told.content → (s : State)
         → FilesHold O.Directory files.old s → IsWhole s
-        → IfOk result (λ shown. (shown ≡ snapshot_in s generation) × CanRead s) }
+        → IfOk result (λ shown. (shown ≡ snapshot_in s generation)
+        × AreGoodFiles s (all_required s.catalog.commit.segments)) }
     ensures faults { CommitFaults O.Directory files.old files.new result }
     ensures frame { KeepsFiles (OnlyReads O.told) O.view files.old files.new }
     ensures images { O.tells_images
         → KeepsDisk (O.disk files.old.outside) (O.disk files.new.outside) }
 {
     let commit = read_commit(alloc, files)?;
-    let segments = commit.segments(alloc)?;
-    let readers = read_segments(alloc, files, segments.as_slice())?;
-    Ok(Snapshot::new(generation, commit, readers))
+    read_files(alloc, files, generation, commit)
 }
 
 /// The commit that `meta.json` means with the bodies of its files, under this number. All is read while
@@ -149,7 +175,8 @@ pub(crate) fn load<O: Outside>(
 ) -> Result<Snapshot, TantivyError>
     ensures shown { O.told.content → (s : State)
         → FilesHold O.Directory files.old s → IsWhole s
-        → IfOk result (λ shown. (shown ≡ snapshot_in s generation) × CanRead s) }
+        → IfOk result (λ shown. (shown ≡ snapshot_in s generation)
+        × AreGoodFiles s (all_required s.catalog.commit.segments)) }
     ensures faults { LoadFaults O.Directory files.old files.new result }
     ensures frame { KeepsFiles (OnlyReads O.told) O.view files.old files.new }
     ensures images { O.tells_images

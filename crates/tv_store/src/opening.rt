@@ -7,7 +7,7 @@ ghost use Rattle.tv_formats.specs.Schemas.{IsSchema};
 ghost use Rattle.tv_machine.specs.Index.{IsFileOf, as_opened};
 ghost use Rattle.tv_metas.specs.Segments.{entry_of};
 ghost use Rattle.tv_store.specs.Making.{OpensCommit, ChecksFiles, FindsFiles, FindsNone};
-ghost use Rattle.tv_catalog.specs.Committing.{IsSorted};
+ghost use Rattle.tv_snapshots.specs.SegmentOrder.{IsSorted};
 ghost use Rattle.tv_store.specs.Opening.{OpensOrRefuses};
 ghost use Rattle.tv_store.specs.StoreCauses.{writer_lock_name};
 ghost use Rattle.tv_store.specs.Surviving.{SurvivesOpening};
@@ -18,8 +18,6 @@ use std::alloc::Global;
 use std::marker::Model;
 use tv_base::{LockError, TantivyError};
 use tv_catalog::catalog::Catalog;
-use tv_catalog::commit::Commit;
-use tv_catalog::names::required_files;
 use tv_device::{DirectoryLock, Outside, index_writer_lock};
 use tv_formats::{FileName, Memory, Opstamp};
 use tv_index::{
@@ -27,6 +25,8 @@ use tv_index::{
 };
 use tv_machine::Answer;
 use tv_managed::Refused;
+use tv_snapshots::commit::Commit;
+use tv_snapshots::names::required_files;
 
 /// What an opening does of an index that was found: its catalog, the files that are to be read, and the
 /// line that is told then. To a contract it is the catalog.

@@ -1,11 +1,12 @@
 //! Actions are performed: every call on the files that a planned event makes.
-ghost use Rattle.std.specs.Prelude.{◌≡◌, ◌≤◌, true, if◌then◌else◌, length, map, string_bytes, [], vec_len, vec_capacity, IfOk, IfSome, IsSome};
+ghost use Rattle.std.specs.Prelude.{◌≡◌, ◌≤◌, true, false, if◌then◌else◌, length, map, string_bytes, [], vec_len, vec_capacity, IfOk, IfSome, IsSome};
 ghost use Rattle.std.specs.List.{AllByRecursion};
 ghost use Rattle.tv_device.specs.Images.{KeepsDisk};
 ghost use Rattle.tv_device.specs.View.{OnlyReads};
 ghost use Rattle.tv_formats.specs.Collections.{collection_at};
 ghost use Rattle.tv_formats.specs.Names.{at, has, meta_name};
 ghost use Rattle.tv_machine.specs.Index.{IsFileOf};
+ghost use Rattle.tv_machine.specs.Living.{is_busy};
 ghost use Rattle.tv_machine.specs.State.{Catalog, State};
 ghost use Rattle.tv_catalog.specs.Actions.{MayGive, first_open, reply_in};
 ghost use Rattle.tv_catalog.specs.Kept.{HasUntried};
@@ -17,15 +18,15 @@ ghost use Rattle.tv_store.specs.Stays.{EventFaults, KeepsFiles};
 ghost use Rattle.tv_catalog.specs.declared.action.Action.TheVariants as actions;
 
 use crate::files::StoreFiles;
-use crate::loading::load;
+use crate::loading::{load, read_files};
 use std::alloc::Global;
 use std::collections::BTreeSet;
 use tv_base::TantivyError;
 use tv_catalog::action::{Action, FileNames, Reply};
-use tv_catalog::commit::Commit;
 use tv_device::Outside;
 use tv_formats::FileName;
 use tv_machine::Blob;
+use tv_snapshots::commit::Commit;
 
 // An empty file is made, unless its name is taken.
 fn make<O: Outside>(files: &mut StoreFiles<O>, name: FileName) -> Result<Reply, TantivyError>
@@ -214,12 +215,50 @@ fn validate<O: Outside>(
     find_damaged(files, names, room)
 }
 
-// The open files are left, and no collection is unfinished any more.
+// The meta lock is taken, and kept for a reload.
+fn lock<O: Outside>(files: &mut StoreFiles<O>) -> Result<Reply, TantivyError>
+    requires { files.old.locked ≡ false }
+    ensures performs { Performs O.Directory actions.Lock files.old files.new result }
+    ensures images { PerformsSafely O.Directory actions.Lock files.old files.new result }
+{
+    files.keep_lock()?;
+    Ok(Reply::Done)
+}
+
+// The files of this commit are read, and then the meta lock is given back that was kept for that. After an
+// error it is kept still.
+fn read<O: Outside>(
+    alloc: Global,
+    files: &mut StoreFiles<O>,
+    commit: Commit,
+) -> Result<Reply, TantivyError>
+    requires { files.old.locked ≡ true }
+    ensures performs { Performs O.Directory (actions.Read commit) files.old files.new result }
+    ensures images { PerformsSafely O.Directory (actions.Read commit) files.old files.new result }
+{
+    let shown = read_files(alloc, files, 0, commit)?;
+    files.give_back();
+    Ok(Reply::Loaded(shown))
+}
+
+// The meta lock is given back that was kept for a reload.
+fn unlock<O: Outside>(files: &mut StoreFiles<O>) -> Result<Reply, TantivyError>
+    requires { files.old.locked ≡ true }
+    ensures performs { Performs O.Directory actions.Unlock files.old files.new result }
+    ensures images { PerformsSafely O.Directory actions.Unlock files.old files.new result }
+{
+    files.give_back();
+    Ok(Reply::Done)
+}
+
+// The open files are left, no collection is unfinished any more, and the meta lock is given back where it was
+// kept for a reload. That comes last: after an error it is kept still.
 fn reopen<O: Outside>(alloc: Global, files: &mut StoreFiles<O>) -> Result<Reply, TantivyError>
     ensures performs { Performs O.Directory actions.Reopen files.old files.new result }
     ensures images { PerformsSafely O.Directory actions.Reopen files.old files.new result }
 {
     files.reopen(alloc)?;
+    files.give_back();
     Ok(Reply::Done)
 }
 
@@ -243,7 +282,8 @@ pub(crate) fn perform<O: Outside>(
     files: &mut StoreFiles<O>,
     action: Action<'_>,
 ) -> Result<Reply, TantivyError>
-    requires { (catalog : Catalog) × CanPerform (kept_of catalog files.old) action }
+    requires { (catalog : Catalog) × (is_busy catalog ≡ files.old.locked)
+        × CanPerform (kept_of catalog files.old) action }
     ensures performs { Performs O.Directory action.entry files.old files.new result }
     ensures images { PerformsSafely O.Directory action.entry files.old files.new result }
 {
@@ -260,6 +300,9 @@ pub(crate) fn perform<O: Outside>(
         Action::End(number) => end(files, number),
         Action::Validate(names) => validate(alloc, files, names),
         Action::Load(generation) => load_commit(alloc, files, generation),
+        Action::Lock => lock(files),
+        Action::Read(commit) => read(alloc, files, commit),
+        Action::Unlock => unlock(files),
         Action::Reopen => reopen(alloc, files),
     }
 }

@@ -5,9 +5,11 @@ ghost use Rattle.tv_formats.specs.Commits.{IndexForm};
 ghost use Rattle.tv_formats.specs.Disk.{possible_now};
 ghost use Rattle.tv_formats.specs.Schemas.{stripped};
 ghost use Rattle.tv_formats.specs.Sound.{IsSoundDirectory};
+ghost use Rattle.tv_machine.specs.Living.{is_busy};
 ghost use Rattle.tv_machine.specs.Machine.{step};
 ghost use Rattle.tv_machine.specs.SoundStates.{IsSoundState, IsWhole};
 ghost use Rattle.tv_machine.specs.State.{State};
+ghost use Rattle.tv_managed.specs.Collecting.{meta_lock_name};
 ghost use Rattle.tv_store.specs.CrashLaws.{KeepsStored, SurvivesTurn};
 ghost use Rattle.tv_store.specs.Durable.{IsDurable, store_files};
 ghost use Rattle.tv_store.specs.Kept.{IsHeld};
@@ -72,14 +74,16 @@ pub fn an_opening_keeps_a_stored_commit<O: Outside>(
     IndexStore::open(alloc, outside, schema)
 }
 
-/// Where one of two commits of sound states is stored, and no lock but the writer's is held, the directory
-/// of a store that is closed is sound: an index opens from whatever a crash then leaves of it.
+/// Where one of two commits of sound states is stored, and no lock is held but the writer's and that of a
+/// reload which waits for its files, the directory of a store that is closed is sound: an index opens from
+/// whatever a crash then leaves of it.
 pub fn a_closed_store_is_sound<O: Outside>(store: IndexStore<O>) -> O
     ensures { O.tells_images → O.told.locks → (before after : State)
         → IsSoundState before → IsSoundState after
         → IsSafe (stored_of store.kept.form before) (stored_of store.kept.form after)
         (possible_now (O.disk store.outside))
         → ((lock : List ℕ) → lock ≢ writer_lock_name
+        → (is_busy store.kept.catalog ≡ true → lock ≢ meta_lock_name)
         → (O.view store.outside).locks lock ≡ false)
         → IsSoundDirectory store.kept.form.schema (O.disk result) (O.view result).locks }
 {

@@ -12,7 +12,7 @@ ghost use Rattle.tv_formats.specs.declared.segment.LiveSegment.{LiveSegment};
 ghost use Rattle.tv_device.specs.View.{OnlyTells};
 ghost use Rattle.tv_index.specs.Saving.{saved_text};
 ghost use Rattle.tv_store.specs.Applying.{LeavesAlone};
-ghost use Rattle.tv_catalog.specs.Effects.{WritesByStep};
+ghost use Rattle.tv_catalog.specs.Effects.{MayReload, WritesByStep};
 ghost use Rattle.tv_store.specs.EventLaws.{HasLiving, HoldsSome};
 ghost use Rattle.tv_store.specs.ReadCauses.{IsReadError};
 ghost use Rattle.tv_store.specs.SnapshotCalls.{ShowsMeta};
@@ -76,14 +76,14 @@ pub fn commits_living_segments<O: Outside>(
     store.apply(&Event::Commit(payload, ids))
 }
 
-/// After a `reload` a reader shows the commit that `meta.json` means.
+/// After a `reload` that isn't refused a reader shows the commit that `meta.json` means.
 pub fn reload_shows_the_commit<O: Outside>(
     store: &mut IndexStore<O>,
     number: u64,
 ) -> Result<Answer, TantivyError>
     requires { store.old.standing.is_open ≡ true }
-    ensures { HoldsSome O.Directory store.old → (reader : Reader)
-        → reader_at store.new.kept.catalog number ≡ Some reader
+    ensures { HoldsSome O.Directory store.old → MayReload store.old.kept.catalog number
+        → (reader : Reader) → reader_at store.new.kept.catalog number ≡ Some reader
         → OnOk result (ShowsMeta O.Directory store.new reader.shown) }
 {
     store.apply(&Event::Reload(number))

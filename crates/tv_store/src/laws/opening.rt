@@ -2,6 +2,8 @@
 ghost use Rattle.std.specs.Prelude.{◌≡◌, ◌⊎◌, true, false, ℕ, List, None, IfOk, IfErr, IsErr};
 ghost use Rattle.tv_formats.specs.Files.{Same};
 ghost use Rattle.tv_machine.specs.Index.{FoundIndex};
+ghost use Rattle.tv_machine.specs.Living.{is_busy};
+ghost use Rattle.tv_managed.specs.Collecting.{meta_lock_name};
 ghost use Rattle.tv_index.specs.Opening.{IsRefusedBytes};
 ghost use Rattle.tv_store.specs.Making.{NamesRefused};
 ghost use Rattle.tv_store.specs.StoreCauses.{writer_lock_name};
@@ -90,10 +92,12 @@ pub fn leaves_locks_as_they_were<O: Outside>(
     IndexStore::open(alloc, outside, schema)
 }
 
-/// A store that ends gives its lock back, whether it is open or an error stopped it: the next opening of
-/// the directory isn't kept out.
+/// A store that ends gives its lock back, and that of a reload which waits for its files, whether it is open
+/// or an error stopped it: nobody is kept out by them.
 pub fn frees_its_lock_at_the_end<O: Outside>(store: IndexStore<O>) -> O
-    ensures { O.told.locks → (O.view result).locks writer_lock_name ≡ false }
+    ensures writer { O.told.locks → (O.view result).locks writer_lock_name ≡ false }
+    ensures reload { O.told.locks → is_busy store.kept.catalog ≡ true
+        → (O.view result).locks meta_lock_name ≡ false }
 {
     store.into_outside()
 }

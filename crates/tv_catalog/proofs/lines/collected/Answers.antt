@@ -1,6 +1,6 @@
 use Rattle.std.proofs.Common.{arith, ◌≡◌, ◌≤◌, ◌+◌, ◌++◌, ◌∷◌, [], ℕ, List, length, codes, ap, ◌∙◌, vec_len, vec_capacity}
 use Rattle.tv_machine.specs.CollectionEvents.{collected_line}
-use Rattle.tv_machine.specs.Lines.{line}
+use Rattle.tv_events.specs.AnswerLines.{line}
 use Rattle.tv_catalog.proofs.AnswerRoom.{begun_fits, parts_fit, written_line}
 use Rattle.tv_catalog.proofs.lines.collected.Goals as goal
 

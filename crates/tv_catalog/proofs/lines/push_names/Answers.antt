@@ -1,7 +1,7 @@
 use Rattle.std.proofs.Common.{arith, ◌≡◌, ◌++◌, ◌∷◌, ◌+◌, ℕ, List, true, drop, length, sym, ap, subst, ◌∙◌}
 use Rattle.tv_formats.specs.Files.{has_no_feed}
 use Rattle.tv_formats.proofs.NoFeeds.{no_feed_name}
-use Rattle.tv_machine.specs.Lines.{line}
+use Rattle.tv_events.specs.AnswerLines.{line}
 use Rattle.tv_catalog.proofs.AnswerRoom.{begun_fits, word_feeds}
 use Rattle.tv_catalog.proofs.SharedLaws.{drop_here}
 use Rattle.tv_catalog.proofs.lines.push_names.Goals as goal

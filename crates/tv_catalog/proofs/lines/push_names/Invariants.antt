@@ -1,6 +1,6 @@
 use Rattle.std.proofs.Common.{◌≡◌, ◌≤◌, true, drop, vec_capacity}
 use Rattle.tv_formats.specs.Files.{has_no_feed}
-use Rattle.tv_machine.specs.Lines.{line}
+use Rattle.tv_events.specs.AnswerLines.{line}
 use Rattle.tv_catalog.proofs.lines.push_names.Given as goal
 
 abbrev pub invariant-loop-name : goal.invariant-loop-name

@@ -2,7 +2,7 @@ use Rattle.std.proofs.Common.{arith, ◌≡◌, ◌++◌, ◌∷◌, ◌+◌, �
 use Rattle.std.specs.Borrow.{Bor}
 use Rattle.std.proofs.lemmas.List.{drop_more}
 use Rattle.tv_formats.specs.Files.{has_no_feed}
-use Rattle.tv_machine.specs.Lines.{line}
+use Rattle.tv_events.specs.AnswerLines.{line}
 use Rattle.tv_catalog.specs.Kept.{texts_of}
 use Rattle.tv_catalog.proofs.AnswerRoom.{begun_fits, word_feeds}
 use Rattle.tv_catalog.proofs.PlannedCollections.{first_plain_name}

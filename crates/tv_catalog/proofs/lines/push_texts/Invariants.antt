@@ -2,7 +2,7 @@ use Rattle.std.proofs.Common.{◌≡◌, ◌≤◌, true, drop, vec_capacity}
 use Rattle.std.specs.List.{list_all}
 use Rattle.tv_formats.specs.Files.{has_no_feed}
 use Rattle.tv_formats.specs.Names.{is_plain}
-use Rattle.tv_machine.specs.Lines.{line}
+use Rattle.tv_events.specs.AnswerLines.{line}
 use Rattle.tv_catalog.specs.Kept.{texts_of}
 use Rattle.tv_catalog.proofs.lines.push_texts.Given as goal
 

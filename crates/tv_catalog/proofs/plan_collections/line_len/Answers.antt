@@ -1,6 +1,6 @@
 use Rattle.std.proofs.Common.{rules, ◌≡◌, [], length, map, string_bytes, ap, arith}
 use Rattle.std.proofs.lemmas.Map.Iter.{iter_end}
-use Rattle.tv_machine.specs.Lines.{line}
+use Rattle.tv_events.specs.AnswerLines.{line}
 use Rattle.tv_catalog.proofs.SharedLaws.{line_len, words_len}
 use Rattle.tv_catalog.proofs.plan_collections.line_len.Goals as goal
 

@@ -1,5 +1,5 @@
 use Rattle.std.proofs.Common.{◌≡◌, ◌<◌, ◌+◌, ◌^◌, length, map, string_bytes}
-use Rattle.tv_machine.specs.Lines.{line}
+use Rattle.tv_events.specs.AnswerLines.{line}
 use Rattle.tv_catalog.proofs.SharedLaws.{words_len}
 use Rattle.tv_catalog.proofs.plan_collections.line_len.Given as goal
 

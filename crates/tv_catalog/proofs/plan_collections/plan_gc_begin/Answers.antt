@@ -1,13 +1,15 @@
-use Rattle.std.proofs.Common.{rules, arith, ◌≡◌, ◌++◌, ◌∷◌, [], ℕ, List, codes, decimal, length, true, map, string_bytes, inl, refl, sym, ap, subst, ◌∙◌}
+use Rattle.std.proofs.Common.{cond, false, Bool, rules, arith, ◌≡◌, ◌++◌, ◌∷◌, [], ℕ, List, codes, decimal, length, true, map, string_bytes, inl, refl, sym, ap, subst, ◌∙◌}
 use Rattle.std.specs.List.{list_all}
 use Rattle.tv_formats.specs.Collections.{Collections, collectable, held}
 use Rattle.tv_formats.specs.Names.{has, is_plain, meta_name}
-use Rattle.tv_machine.specs.Lines.{line}
-use Rattle.tv_machine.specs.Living.{living}
+use Rattle.tv_events.specs.AnswerLines.{line}
+use Rattle.tv_machine.specs.Living.{is_busy, living}
 use Rattle.tv_machine.specs.State.{Catalog, State}
 use Rattle.tv_catalog.specs.Kept.{texts_of, kept_with}
 use Rattle.tv_catalog.proofs.AnswerRoom.{taken_fits}
 use Rattle.tv_catalog.proofs.PlannedCollections.{planned_begin, taken_plain}
+use Rattle.tv_catalog.specs.Effects.{collection_after}
+use Rattle.tv_catalog.specs.Exhausted.{SomePassesEnd}
 use Rattle.tv_catalog.proofs.SharedLaws.{only_numbers}
 use Rattle.tv_catalog.specs.Plans.{InMemory}
 use Rattle.tv_catalog.proofs.plan_collections.plan_gc_begin.Goals as goal
@@ -45,9 +47,10 @@ returns-clause-plans g c =
     let told : c.push_texts.new.text.items ≡ line (codes "gc") (decimal files.collections.next ∷ collectable (living_names ++ held files.collections) files.managed) =
     c.push_texts.ensures.line ∙ ap (line c.in_ok-line.line.items) names
     ∙ ap (λ (t : List ℕ). line t (collectable (living_names ++ held files.collections) files.managed)) (c.in_ok-line.ensures.line ∙ c.in_ok-answer.ensures ∙ ap (λ (n : ℕ). line (codes "gc") (decimal n ∷ [])) c.next_collection.ensures) in
+    let free : is_busy kept.catalog ≡ false = sym c.is_busy.ensures ∙ c.if-is_busy.false in
     record {
       steps = λ s m deletes.
-          planned_begin s living_names c.push_texts.new.text.items (needs s m)
+          planned_begin s living_names c.push_texts.new.text.items (ap is_busy (sym m.catalog) ∙ free) (needs s m)
           (told ∙ ap (λ (k : Collections). line (codes "gc") (decimal k.next ∷ collectable (living_names ++ held k) files.managed)) m.collections
           ∙ ap (λ (ns : List (List ℕ)). line (codes "gc") (decimal s.collections.next ∷ collectable (living_names ++ held s.collections) ns)) m.managed);
       suits = needs;
@@ -60,10 +63,12 @@ returns-clause-plans g c =
       adds = search rules;
       numbers = search rules;
       changes = search rules;
-      locks = search rules;
-      unlocked = search rules;
+      locks = λ takes. free;
+      unlocked = λ takes. tt;
       loads = λ s m. refl;
+      keeps = λ reply gives. refl;
+      sure = inl refl;
       saves = tt;
-      fits = λ spent. only_numbers spent;
-      spends = λ spent. inl spent;
+      fits = λ spent. subst (λ (b : Bool). SomePassesEnd (cond b [] (collection_after kept.collections))) free (only_numbers spent);
+      spends = λ spent. inl (subst (λ (b : Bool). SomePassesEnd (cond b [] (collection_after kept.collections))) (sym free) spent);
     }

@@ -1,6 +1,6 @@
 use Rattle.std.proofs.Common.{◌≡◌, List, ℕ, None, OnOk, IfOk, subst}
 use Rattle.tv_machine.specs.CommitEvents.{chosen, first_unknown}
-use Rattle.tv_machine.specs.declared.event.Event.TheVariants as events
+use Rattle.tv_events.specs.declared.event.Event.TheVariants as events
 use Rattle.tv_catalog.specs.Kept.{kept_with}
 use Rattle.tv_catalog.specs.Plans.{Plans}
 use Rattle.tv_catalog.proofs.plan_commit.plan_commit.Goals as goal

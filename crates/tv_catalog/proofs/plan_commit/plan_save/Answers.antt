@@ -8,7 +8,7 @@ use Rattle.tv_formats.specs.Segments.{all_required, num_docs}
 use Rattle.tv_formats.specs.declared.segment.LiveSegment.{LiveSegment}
 use Rattle.tv_formats.proofs.Required.{required_some}
 use Rattle.tv_machine.specs.CommitEvents.{chosen, first_unknown, last_stamp}
-use Rattle.tv_machine.specs.Lines.{line}
+use Rattle.tv_events.specs.AnswerLines.{line}
 use Rattle.tv_machine.specs.State.{Catalog}
 use Rattle.tv_catalog.specs.Committing.{commit_line}
 use Rattle.tv_catalog.proofs.SharedLaws.{all_required_are_files}
@@ -67,6 +67,8 @@ returns g c = λ ids known are.
       locks = λ takes. takes;
       unlocked = λ takes. takes;
       loads = λ s m. refl;
+      keeps = λ reply gives. refl;
+      sure = inl refl;
       saves = tt;
       fits = search rules;
       spends = search rules;

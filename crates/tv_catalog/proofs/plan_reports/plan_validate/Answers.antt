@@ -1,9 +1,9 @@
-use Rattle.std.proofs.Common.{rules, arith, ◌≡◌, ◌≤◌, ◌+◌, ℕ, [], List, length, vec_capacity, true, refl, sym, ap, subst, ◌∙◌}
+use Rattle.std.proofs.Common.{inl, rules, arith, ◌≡◌, ◌≤◌, ◌+◌, ℕ, [], List, length, vec_capacity, true, refl, sym, ap, subst, ◌∙◌}
 use Rattle.std.proofs.lemmas.Grind.{common_steps}
 use Rattle.std.specs.List.{AllByRecursion}
 use Rattle.tv_formats.specs.Files.{has_no_feed}
 use Rattle.tv_machine.specs.Index.{IsFileOf}
-use Rattle.tv_machine.specs.Lines.{line}
+use Rattle.tv_events.specs.AnswerLines.{line}
 use Rattle.tv_machine.specs.ReportEvents.{committed_names, validated}
 use Rattle.tv_machine.specs.State.{Catalog, State}
 use Rattle.tv_catalog.proofs.ValidatedFiles.{files_committed, planned_validate, validated_fits}
@@ -36,6 +36,8 @@ returns-clause-plans g c =
       locks = λ takes. takes;
       unlocked = λ takes. takes;
       loads = λ s m. refl;
+      keeps = λ reply gives. refl;
+      sure = inl refl;
       saves = tt;
       fits = first_of (search rules, grind (arith, common_steps));
       spends = first_of (search rules, grind (arith, common_steps));

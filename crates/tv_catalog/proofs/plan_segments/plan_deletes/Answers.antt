@@ -1,4 +1,4 @@
-use Rattle.std.proofs.Common.{rules, refl, ◌≡◌, ◌<◌, ◌||◌, false, Some, inr, ap, subst, sym, ◌∙◌, map, string_bytes}
+use Rattle.std.proofs.Common.{inl, rules, refl, ◌≡◌, ◌<◌, ◌||◌, false, Some, inr, ap, subst, sym, ◌∙◌, map, string_bytes}
 use Rattle.tv_formats.specs.declared.segment.DeleteMeta.{DeleteMeta}
 use Rattle.tv_formats.specs.Collections.{held}
 use Rattle.tv_formats.specs.Names.{at, has}
@@ -42,6 +42,8 @@ returns-clause-plans g c =
       locks = λ takes. takes;
       unlocked = λ takes. takes;
       loads = λ s m. refl;
+      keeps = λ reply gives. refl;
+      sure = inl refl;
       saves = tt;
       fits = λ spent. only_numbers spent;
       spends = λ spent. absurd spent;

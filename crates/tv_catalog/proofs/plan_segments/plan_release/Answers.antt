@@ -1,4 +1,4 @@
-use Rattle.std.proofs.Common.{rules, refl, ◌≡◌, Some, inr, ap, sym, ◌∙◌}
+use Rattle.std.proofs.Common.{inl, rules, refl, ◌≡◌, Some, inr, ap, sym, ◌∙◌}
 use Rattle.tv_machine.specs.State.{live_at}
 use Rattle.tv_catalog.specs.declared.action.Action.TheVariants as actions
 use Rattle.tv_catalog.proofs.PlannedSegments.{planned_release, released_segments}
@@ -25,6 +25,8 @@ returns-clause-plans g c =
       locks = λ takes. takes;
       unlocked = λ takes. takes;
       loads = λ s m. refl;
+      keeps = λ reply gives. refl;
+      sure = inl refl;
       saves = tt;
       fits = λ spent. only_numbers spent;
       spends = λ spent. absurd spent;

@@ -4,9 +4,9 @@ use Rattle.tv_machine.proofs.laws.collections_take_what_nothing_needs.Goals as g
 
 pub returns : goal.returns
 returns c = record {
-  collects = λ s outcomes sorted free. collects s outcomes sorted;
+  collects = collects;
   in_runs = collects_in;
   in_steps = collects_in_steps_in;
-  at_once = λ s outcomes free. collects_at_once s outcomes;
+  at_once = collects_at_once;
   all_else = collects_all_else;
 }

@@ -4,7 +4,8 @@ use Rattle.tv_formats.specs.Segments.{all_required, required_names}
 use Rattle.tv_managed.specs.TrackLaws.{keeps_then}
 use Rattle.tv_metas.specs.Segments.{entry_of}
 use Rattle.tv_reader.proofs.Bodies.{index_then, unread_faults}
-use Rattle.tv_reader.proofs.CommitBodies.{all_read, cause_back, entries_more, required_split, segment_more}
+use Rattle.tv_reader.proofs.CommitBodies.{all_read, entries_more, required_split, segment_more}
+use Rattle.tv_reader.specs.ReadLaws.{cause_back}
 use Rattle.tv_reader.specs.Bodies.{shown_entry}
 use Rattle.tv_reader.proofs.commit_opening.read_segments.Goals as goal
 

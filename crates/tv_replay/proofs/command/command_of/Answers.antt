@@ -1,6 +1,7 @@
-use Rattle.std.proofs.Common.{List, ℕ, [], ◌∷◌, codes, string_bytes, sym, ap, ◌∙◌, arith}
-use Rattle.tv_replay.proofs.CommandWords.{are_generate, are_replay, no_command}
-use Rattle.tv_replay.proofs.Numbers.{number_found}
+use Rattle.std.proofs.Common.{List, ℕ, [], ◌∷◌, codes, string_bytes, sym, ap, ◌∙◌, arith, subst}
+use Rattle.tv_replay.specs.Commands.{IsCommandOf}
+use Rattle.tv_replay.proofs.CommandWords.{are_generate, no_command, three_words}
+use Rattle.tv_script.proofs.Numbers.{number_found}
 use Rattle.tv_replay.proofs.command.command_of.Goals as goal
 
 pub returns-in_err-commits_of-in-len2 : goal.returns-in_err-commits_of-in-len2
@@ -18,5 +19,5 @@ returns-in_ok-commits_of-in-len2 c =
 
 pub returns-in-len3 : goal.returns-in-len3
 returns-in-len3 c =
-    are_replay string_bytes c.args.words.now c.command-item-then-words-lt4.result c.folder-item.result c.path-item.result c.as_str-then-words-lt4.result.now c.as_str-in-len3.result.now c.as_str-in-len3-2.result.now c.in-len3.len_at_least
-    c.in-len3.len_below c.command-item-then-words-lt4.is c.folder-item.is c.path-item.is c.as_str-then-words-lt4.ensures.value c.as_str-in-len3.ensures.value c.as_str-in-len3-2.ensures.value c.if-eq-2.ensures
+    subst (λ (words : List (List ℕ)). IsCommandOf words c.on_folder.result) (three_words string_bytes c.args.words.now c.command-item-then-words-lt4.result c.folder-item.result c.path-item.result c.as_str-in-len3.result.now c.as_str-in-len3-2.result.now c.as_str-in-len3-3.result.now c.in-len3.len_at_least
+    c.in-len3.len_below c.command-item-then-words-lt4.is c.folder-item.is c.path-item.is c.as_str-in-len3.ensures.value c.as_str-in-len3-2.ensures.value c.as_str-in-len3-3.ensures.value) c.on_folder.ensures

@@ -2,7 +2,7 @@ use Rattle.std.proofs.Common.{sym, ◌∙◌}
 use Rattle.std.proofs.lemmas.List.{length-map}
 use Rattle.std.proofs.lemmas.Result.{IfOk-weaker}
 use Rattle.tv_machine.specs.Machine.{Turn, events_of}
-use Rattle.tv_machine.specs.Script.{lines_of}
+use Rattle.tv_events.specs.Script.{lines_of}
 use Rattle.tv_replay.proofs.Progress.{AreLines-length}
 use Rattle.tv_replay.proofs.laws.replays_the_whole_script.Goals as goal
 

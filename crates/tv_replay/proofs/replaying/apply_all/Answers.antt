@@ -6,11 +6,11 @@ use Rattle.tv_formats.specs.Files.{Rose}
 use Rattle.tv_store.specs.Applying.{event_facts}
 use Rattle.tv_catalog.specs.Exhausted.{IsExhausted}
 use Rattle.tv_machine.specs.Living.{is_busy}
-use Rattle.tv_replay.proofs.KeptLocks.{same_locks}
+use Rattle.tv_replay.proofs.KeptLocks.{free_since, lock_since}
 use Rattle.tv_catalog.specs.Effects.{LoadsCommit, TakesMetaLock}
-use Rattle.tv_replay.specs.ScriptLines.{IsNoEvent, IsTooLong, pending}
+use Rattle.tv_script.specs.ScriptLines.{IsNoEvent, IsTooLong, pending}
 use Rattle.std.proofs.lemmas.Result.{err_from_is_err_and, IfErr-weaker, on_ok_weaker}
-use Rattle.tv_machine.specs.Script.{line_limit}
+use Rattle.tv_events.specs.Script.{line_limit}
 use Rattle.tv_replay.specs.AppliedEvents.{FailsRun, run_causes}
 use Rattle.tv_store.specs.Kept.{AtMost}
 use Rattle.tv_catalog.specs.ReaderNumbers.{FewNumbers}
@@ -20,7 +20,8 @@ use Rattle.tv_replay.proofs.Stopping.{stops_between, stops_in, event_stops, scri
 use Rattle.tv_replay.proofs.ReadAhead.{event_known, end_known}
 use Rattle.tv_replay.proofs.ReplayFrames.{frame_then, may_note, no_time}
 use Rattle.tv_replay.proofs.Surviving.{in_event, in_part}
-use Rattle.tv_replay.proofs.AppliedEvents.{starts, goes_on, ends, stops_at_line, stops_at_long, stops_at_last, one_more_line, never_spent, event_cause, script_cause, end_cause, fails, if_err_both, if_ok_both, meta_stands, rose_from}
+use Rattle.tv_replay.proofs.AppliedEvents.{starts, goes_on, ends, stops_at_line, stops_at_long, stops_at_last, event_cause, script_cause, end_cause, fails, if_err_both, if_ok_both, meta_stands, rose_from}
+use Rattle.tv_replay.proofs.Spending.{one_more_line, never_spent, written_within}
 use Rattle.tv_replay.proofs.replaying.apply_all.Goals as goal
 
 pub loop-events-init : goal.loop-events-init
@@ -31,7 +32,7 @@ loop-events-init g c = record {
   short = c.requires.short;
   few = c.requires.few;
   quiet = (refl, refl);
-  frame = no_time g.O.Directory.told (g.O.Directory.view c.args.store.now.outside);
+  frame = no_time g.O.Directory.told (is_busy c.args.store.now.kept.catalog) (g.O.Directory.view c.args.store.now.outside) c.requires.idle;
 }
 
 pub loop-events-preserved : goal.loop-events-preserved
@@ -40,15 +41,17 @@ loop-events-preserved g c =
     let taken = rw c.in-Ok-Some.field-0-is at c.in-Ok-Some.ensures.event in
     let line = rw c.in-Ok-Some.field-0-is at c.in-Ok-Some.ensures.fits in
     let applied = c.in_ok-_answer.ensures in
+    let idle_at : (locks : g.O.Directory.told.locks) → TakesMetaLock c.loop-events.store.kept.catalog c.in-Ok-Some.event → (g.O.Directory.view c.loop-events.store.outside).locks meta_lock_name ≡ (g.O.Directory.view c.args.store.now.outside).locks meta_lock_name
+    = λ locks takes. lock_since g.O.Directory.told.locks c.loop-events.store.kept.catalog c.in-Ok-Some.event _ _ before.frame.locks locks takes in
     record {
       run = goes_on g.O.Directory c.args.store.now c.loop-events.store c.apply.new.self _ _ _ c.loop-events.events c.in-Ok-Some.event c.in_ok-_answer._answer before.run taken line.fits applied.frame.form
-          (λ locks held takes. true≢false (sym (before.frame.locks locks meta_lock_name ∙ held) ∙ applied.faults.free locks takes)) applied.step applied.tells.ok (g.met.O.Directory.tells_more, applied.survives);
+          (λ locks held takes. true≢false (sym (idle_at locks takes ∙ held) ∙ applied.faults.free locks takes)) applied.step applied.tells.ok (g.met.O.Directory.tells_more, applied.survives);
       held = c.in-Ok-Some.ensures.held;
       is_open = applied.frame.is_open;
-      short = subst (λ (bound : ℕ). AtMost bound c.apply.new.self.kept) (one_more_line c.loop-events.events) (applied.grows.lens (c.loop-events.events * line_limit) line_limit line.small before.short);
-      few = subst (λ (bound : ℕ). FewNumbers bound c.apply.new.self.kept.catalog.reading c.apply.new.self.kept.collections) (one_more_line c.loop-events.events) (applied.grows.numbers (c.loop-events.events * line_limit) line_limit line.small before.few);
+      short = subst (λ (bound : ℕ). AtMost bound c.apply.new.self.kept) (one_more_line c.loop-events.events) (applied.grows.lens (c.loop-events.events * line_limit) line_limit (written_within _ line.small) before.short);
+      few = subst (λ (bound : ℕ). FewNumbers bound c.apply.new.self.kept.catalog.reading c.apply.new.self.kept.collections) (one_more_line c.loop-events.events) (applied.grows.numbers (c.loop-events.events * line_limit) line_limit (written_within _ line.small) before.few);
       quiet = (applied.faults.quiet ∙ before.quiet.0, c.in-Ok-Some.ensures.faults.quiet ∙ before.quiet.1);
-      frame = frame_then before.frame (record { dotted = applied.frame.dotted; goes_on = applied.frame.goes_on; locks = λ t. same_locks (is_busy c.loop-events.store.kept.catalog) (is_busy c.apply.new.self.kept.catalog) (g.O.Directory.view c.loop-events.store.outside).locks (g.O.Directory.view c.apply.new.self.outside).locks refl (applied.frame.locks t); watched = may_note c.in-Ok-Some.event _ _ applied.frame.watched });
+      frame = frame_then {now = is_busy c.apply.new.self.kept.catalog} before.frame applied.frame.dotted applied.frame.goes_on applied.frame.locks (may_note c.in-Ok-Some.event _ _ applied.frame.watched);
     }
 
 pub returns-in-Ok-None-clause-done : goal.returns-in-Ok-None-clause-done
@@ -75,9 +78,9 @@ returns-in_err-_answer-clause-faults g c =
     rw (e.1, e.2) (fails (event_cause (run_causes g.O.Directory c.args.store.now c.apply.new.self script (g.R.Source.view c.next_event.new.source))
     (event_facts g.O.Directory (IsExhausted c.loop-events.store.kept event) c.loop-events.store c.apply.new.self event)
     (LoadsCommit c.loop-events.store.kept.catalog event) g.O.Directory.told.content c.loop-events.store.kept.form.schema ((g.O.Directory.view c.loop-events.store.outside).reads meta_name) c.in_err-_answer.field-0.0 c.in_err-_answer.ensures.faults.cause
-    (λ b. busy_since _ _ _ _ _ (λ told held. sym (before.frame.locks told meta_lock_name) ∙ held) before.quiet.0 b.1)
+    (λ b. busy_since _ _ _ _ _ (λ told held. sym (lock_since g.O.Directory.told.locks c.loop-events.store.kept.catalog event _ _ before.frame.locks told b.0) ∙ held) before.quiet.0 b.1)
     (λ rose. inl (rose_from _ _ _ before.quiet.0 rose)) (λ quiet. (quiet ∙ before.quiet.0, c.in-Ok-Some.ensures.faults.quiet ∙ before.quiet.1))
-    (never_spent c.loop-events.store.kept event c.loop-events.events few line.small before.short before.few)
+    (never_spent c.loop-events.store.kept event c.loop-events.events few (written_within _ line.small) before.short before.few)
     (λ wrong t s held whole. meta_stands g.O.Directory.told.content (g.O.Directory.view c.loop-events.store.outside).reads c.loop-events.store.kept wrong t (after s before.run.turns) (before.run.applied.holds t s held whole))))
 
 pub returns-clause-faults : goal.returns-clause-faults
@@ -132,11 +135,11 @@ returns-in_err-_answer-clause-stops g c =
     (λ tells s held whole. event_stops text s run.turns _ _ (event_facts g.O.Directory (IsExhausted c.loop-events.store.kept event) c.loop-events.store c.apply.new.self event)
     (LoadsCommit c.loop-events.store.kept.catalog event) g.O.Directory.told.content c.loop-events.store.kept.form.schema ((g.O.Directory.view c.loop-events.store.outside).reads meta_name)
     event c.in_err-_answer.field-0.0 (begins_next text _ _ run.turns event run.read taken) failed.faults.cause
-    (λ b. (subst (λ (k : Catalog). TakesMetaLock k event) held.catalog b.0, λ told. sym (before.frame.locks told meta_lock_name) ∙ b.1.told told))
-    (never_spent c.loop-events.store.kept event c.loop-events.events few line.small before.short before.few)
+    (λ b. (subst (λ (k : Catalog). TakesMetaLock k event) held.catalog b.0, λ told. sym (lock_since g.O.Directory.told.locks c.loop-events.store.kept.catalog event _ _ before.frame.locks told b.0) ∙ b.1.told told))
+    (never_spent c.loop-events.store.kept event c.loop-events.events few (written_within _ line.small) before.short before.few)
     (λ wrong. meta_stands g.O.Directory.told.content (g.O.Directory.view c.loop-events.store.outside).reads c.loop-events.store.kept wrong tells (after s run.turns) held)
     (λ error bad. bad.1 tells (after s run.turns) held whole) (λ path none. none.1 tells (after s run.turns) held whole)
-    (λ read told. sym (before.frame.locks told meta_lock_name) ∙ failed.faults.reads told read)))
+    (λ read error bad told. free_since g.O.Directory.told.locks c.loop-events.store.kept.catalog event _ _ before.frame.locks (λ locks takes. failed.faults.reads locks takes read) told bad.0)))
 
 pub returns-clause-stops : goal.returns-clause-stops
 returns-clause-stops g c =
@@ -165,6 +168,11 @@ returns-in-Err-clause-survives g c = in_part g.O.Directory c.args.store.now c.lo
 
 pub returns-clause-survives : goal.returns-clause-survives
 returns-clause-survives g c = in_part g.O.Directory c.args.store.now c.loop-events.store _ _ _ c.loop-events.invariant.run
+
+pub returns-in_err-_answer-clause-frame : goal.returns-in_err-_answer-clause-frame
+returns-in_err-_answer-clause-frame g c =
+    let failed = c.in_err-_answer.ensures.frame in
+    frame_then {now = is_busy c.apply.new.self.kept.catalog} c.loop-events.invariant.frame failed.dotted failed.goes_on failed.locks (may_note c.in-Ok-Some.event _ _ failed.watched)
 
 pub returns-in_err-_answer-clause-survives : goal.returns-in_err-_answer-clause-survives
 returns-in_err-_answer-clause-survives g c =

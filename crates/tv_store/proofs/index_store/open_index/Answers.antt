@@ -1,5 +1,6 @@
-use Rattle.std.proofs.Common.{subst}
+use Rattle.std.proofs.Common.{subst, ◌∙◌}
 use Rattle.tv_device.specs.Calls.{Frees}
+use Rattle.tv_store.proofs.FreedLocks.{frees_one}
 use Rattle.tv_store.proofs.Opened.{opened, refused_with, unbegun}
 use Rattle.tv_store.proofs.OpenedSafely.{survives_begun, survives_refused, survives_with}
 use Rattle.tv_store.proofs.index_store.open_index.Goals as goal
@@ -32,7 +33,8 @@ returns-in-Err g c =
     let found = c.in_ok-opening.field-0 in
     let refusal =
     unbegun D c.args.outside c.args.schema.now found.opening found.files c.in_ok-opening.ensures.found c.begin.new.files c.in-Err.error c.in-Err.ensures.opens c.close.result
-    (subst (λ n. Frees D.told n (D.view c.begin.new.files.outside) (D.view c.close.result)) c.in_ok-opening.ensures.lock c.close.ensures.frees) c.close.ensures.images in
+    (subst (λ n. Frees D.told n (D.view c.begin.new.files.outside) (D.view c.close.result)) c.in_ok-opening.ensures.lock
+    (frees_one D.told found.lock c.begin.new.files.locked (D.view c.begin.new.files.outside) (D.view c.close.result) (c.in-Err.ensures.opens.frame.managed.locked ∙ c.in_ok-opening.ensures.found.found.unlocked) c.close.ensures.frees)) c.close.ensures.images in
     record {
       opens = refusal;
       survives =

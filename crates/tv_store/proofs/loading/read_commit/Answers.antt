@@ -2,7 +2,7 @@ use Rattle.std.proofs.Common.{◌∙◌, List, ap, map, option_map, string_bytes
 use Rattle.tv_metas.specs.Segments.{entry_of}
 use Rattle.tv_metas.specs.declared.segment_meta.InnerSegmentMeta.{InnerSegmentMeta}
 use Rattle.tv_store.specs.Kept.{kept_of}
-use Rattle.tv_catalog.specs.Committing.{IsSorted}
+use Rattle.tv_snapshots.specs.SegmentOrder.{IsSorted}
 use Rattle.tv_store.proofs.LoadedCommits.{loaded_commit}
 use Rattle.tv_store.proofs.loading.read_commit.Goals as goal
 

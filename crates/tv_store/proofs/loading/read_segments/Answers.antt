@@ -6,7 +6,7 @@ use Rattle.tv_formats.specs.declared.segment.LiveSegment.{LiveSegment}
 use Rattle.tv_formats.proofs.Results.{handed_on}
 use Rattle.tv_device.specs.ViewLaws.{reads_then}
 use Rattle.tv_store.specs.Bodies.{AreGood, FailsAt, ReadsSegments}
-use Rattle.tv_catalog.specs.declared.snapshot.SegmentReader.{SegmentReader}
+use Rattle.tv_snapshots.specs.declared.snapshot.SegmentReader.{SegmentReader}
 use Rattle.tv_store.proofs.CheckedFiles.{files_then}
 use Rattle.tv_store.proofs.LoadedFiles.{held_later}
 use Rattle.tv_store.proofs.ReaderEvents.{segments_fail, segments_good, segment_is_sealed, read_more}

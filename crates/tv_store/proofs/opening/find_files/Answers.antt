@@ -28,6 +28,7 @@ returns-in-Ok-clause-found g c = rw c.new.ensures (rw c.from_parts-index.ensures
   open_files = refl;
   left = refl;
   collections = search rules;
+  unlocked = refl;
   quiet = search rules;
   notes = search rules;
   frame = search rules;

@@ -17,7 +17,7 @@ returns-in_err-write-clause-performs g c =
     let old = c.args.files.now in
     let new = c.write.new.self in
     on_one_file D _ old new _ c.args.name c.requires.name (search rules) (λ tells s h whole suits. search rules) (λ tells n other list. c.write.ensures.others tells n other)
-    (λ bound short. short_same bound (length c.args.bytes.now) _ new.open_files c.in_err-write.ensures.closed (short_closed bound old.open_files _ c.args.name refl short)) (search rules) (as_made D c.write.ensures.rest.frame) (λ spent. spent) (λ takes. takes) (λ only. only) c.write.ensures.rest.frame.below.watched
+    (λ bound short. short_same bound (length c.args.bytes.now) _ new.open_files c.in_err-write.ensures.closed (short_closed bound old.open_files _ c.args.name refl short)) (search rules) (as_made D c.write.ensures.rest.frame) (λ spent. spent) (λ takes. takes, tt) (λ only. only) c.write.ensures.rest.frame.below.watched refl
 
 pub returns-clause-performs : goal.returns-clause-performs
 returns-clause-performs g c =
@@ -31,7 +31,7 @@ returns-clause-performs g c =
     on_one_file D _ old new _ name c.requires.name refl
     (λ tells s h whole suits. bytes_added D old new s name c.requires.name.file c.write.ensures.rest.frame.below.watched [] h it.0 it.1 c.args.bytes (c.write.ensures.others tells) (c.in_ok-write.ensures.there tells) c.write.ensures.rest.frame (puts it.0 it.1))
     (λ tells n other list. c.write.ensures.others tells n other)
-    (λ bound short. short_written bound (length it.0) c.args.bytes.now old.open_files new.open_files name (sym (ap (option_map length) it.1)) puts short) (search rules) (as_made D c.write.ensures.rest.frame) (λ spent. spent) (λ takes. takes) (λ only. only) c.write.ensures.rest.frame.below.watched
+    (λ bound short. short_written bound (length it.0) c.args.bytes.now old.open_files new.open_files name (sym (ap (option_map length) it.1)) puts short) (search rules) (as_made D c.write.ensures.rest.frame) (λ spent. spent) (λ takes. takes, tt) (λ only. only) c.write.ensures.rest.frame.below.watched refl
 
 pub returns-clause-images : goal.returns-clause-images
 returns-clause-images g c tells s h whole suits can d =

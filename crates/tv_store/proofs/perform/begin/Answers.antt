@@ -3,7 +3,7 @@ use Rattle.std.proofs.lemmas.Result.{err_from_is_err_and}
 use Rattle.tv_formats.specs.Collections.{Collections, collectable, held, with_begun}
 use Rattle.tv_machine.specs.CollectionEvents.{garbage}
 use Rattle.tv_machine.specs.State.{State}
-use Rattle.tv_store.proofs.ActsPlanned.{locking_as}
+use Rattle.tv_store.proofs.LockingCauses.{locking_as}
 use Rattle.tv_store.proofs.CollectingEvents.{begun_holds}
 use Rattle.tv_store.proofs.CollectionEvents.{takes_garbage}
 use Rattle.tv_store.proofs.FilesHeld.{short_same}
@@ -40,7 +40,7 @@ returns-clause-performs g c =
       saves = λ commit e. absurd cc;
     }))
     (λ bound short. short_same bound 0 old.open_files new.open_files (ap (λ v. v.open_files) frame.rest) short) (omega (arith, ap (λ (k : Collections). k.next) told.collections))
-    (record { quiet = faults.quiet; free = λ locks takes. faults.free locks; fits = faults.fits; cause = tt }) form refl frame.below
+    (record { quiet = faults.quiet; free = λ locks takes. faults.free locks; fits = faults.fits; cause = tt }) form refl frame.below (ap (λ v. v.locked) frame.rest, refl)
 
 pub returns-in_err-collect_begin-clause-performs : goal.returns-in_err-collect_begin-clause-performs
 returns-in_err-collect_begin-clause-performs g c =
@@ -52,7 +52,7 @@ returns-in_err-collect_begin-clause-performs g c =
     rw (e.1, e.2)
     (on_read D (actions.Begin c.args.living) old new _ tt tt (λ bound short. short_same bound 0 old.open_files new.open_files (ap (λ v. v.open_files) frame.rest) short) tt
     (record { quiet = tt; free = λ locks takes. tt; fits = tt; cause = locking_as _ _ (λ b. (tt, b)) (λ spent. spent) c.in_err-collect_begin.field-0.0 c.in_err-collect_begin.ensures.faults.cause })
-    (ap (λ v. v.form) frame.rest) refl frame.below)
+    (ap (λ v. v.form) frame.rest) refl frame.below (ap (λ v. v.locked) frame.rest, refl))
 
 pub returns-in_err-collect_begin-clause-images : goal.returns-in_err-collect_begin-clause-images
 returns-in_err-collect_begin-clause-images g c tells s h whole suits can d =

@@ -3,7 +3,7 @@ use Rattle.std.proofs.lemmas.Result.{err_from_is_err_and}
 use Rattle.tv_formats.specs.Collections.{Collections, collectable, done_of, failed_of, held}
 use Rattle.tv_formats.specs.Names.{meta_name}
 use Rattle.tv_machine.specs.CollectionEvents.{garbage, without_files}
-use Rattle.tv_store.proofs.ActsPlanned.{locking_as}
+use Rattle.tv_store.proofs.LockingCauses.{locking_as}
 use Rattle.tv_store.proofs.Changed.{none_done}
 use Rattle.tv_store.proofs.CollectionEvents.{collected, refusals_rose, takes_garbage}
 use Rattle.tv_store.proofs.FilesHeld.{short_same}
@@ -45,7 +45,7 @@ returns-clause-performs g c =
             reply_is = ap (λ (r : CollectedNames). replies.Collected r) is
                 ∙ ap (λ (ns : List (List ℕ)). replies.Collected (record { deleted = done_of ns outs; failed = failed_of ns outs })) taken;
             held = subst (λ (ns : List (List ℕ)). FilesHold D new (without_files s ns)) (sym done)
-                (collected D s.catalog old new frame.form s needed reply.deleted reply.failed tells h suits told (c.in_ok-collected.ensures.list tells)).1;
+                (collected D s.catalog old new frame.form s needed reply.deleted reply.failed tells h suits told (c.in_ok-collected.ensures.list tells));
             same = λ some stays. record {
               reads = told.same tells (done ∙ none_done s outs (subst (λ (ns : List (List ℕ)). without_files s ns ≡ s) done stays));
               watched = frame.below.watched;
@@ -56,7 +56,7 @@ returns-clause-performs g c =
     (λ tells. c.collect.ensures.spared tells meta_name c.requires (undotted_isnt_list meta_name refl)) (λ tells. c.collect.ensures.dotted tells)
     (λ bound short. short_same bound 0 new.open_files new.open_files refl (c.collect.ensures.lens bound short)) (omega (arith, ap (λ (k : Collections). k.next) told.collections))
     (record { quiet = faults.quiet; free = λ locks takes. faults.free locks; fits = faults.fits; cause = tt }) frame.form
-    (kept_by_deletes D.told action (D.view old.outside) (D.view new.outside) tt frame.below.watched frame.below) (λ only. absurd only)
+    (kept_by_deletes D.told action (D.view old.outside) (D.view new.outside) tt frame.below.watched frame.below) (λ only. absurd only) (frame.locked, refl)
 
 pub returns-in_err-collected-clause-performs : goal.returns-in_err-collected-clause-performs
 returns-in_err-collected-clause-performs g c =
@@ -70,7 +70,7 @@ returns-in_err-collected-clause-performs g c =
     (on_files D action old new _ tt tt (λ tells. c.collect.ensures.spared tells meta_name c.requires (undotted_isnt_list meta_name refl)) (λ tells. c.collect.ensures.dotted tells)
     (λ bound short. short_same bound 0 new.open_files new.open_files refl (c.collect.ensures.lens bound short)) tt
     (record { quiet = tt; free = λ locks takes. tt; fits = tt; cause = locking_as _ _ (λ b. (tt, b)) (λ spent. spent) c.in_err-collected.field-0.0 c.in_err-collected.ensures.faults.cause }) frame.form
-    (kept_by_deletes D.told action (D.view old.outside) (D.view new.outside) tt frame.below.watched frame.below) (λ only. absurd only))
+    (kept_by_deletes D.told action (D.view old.outside) (D.view new.outside) tt frame.below.watched frame.below) (λ only. absurd only) (frame.locked, refl))
 
 pub returns-clause-images : goal.returns-clause-images
 returns-clause-images g c tells s h whole suits can d =

@@ -34,8 +34,8 @@ returns-clause-performs g c =
     }))
     (λ tells. done.others tells meta_name (undotted_isnt_list meta_name refl)) (λ tells n dot other. done.others tells n other)
     (λ bound short. short_same bound 0 old.open_files new.open_files (ap (λ v. v.open_files) done.frame.rest) short) (omega (arith, ap (λ v. v.next) told.collections))
-    (plain_faults D (actions.End c.args.number) old new (Ok replies.Done) (search rules) (λ spent. spent) (λ takes. takes)) form
-    (kept_by D.told _ (D.view old.outside) (D.view new.outside) done.frame.below.watched done.frame.below) (λ only. absurd only)
+    (plain_faults D (actions.End c.args.number) old new (Ok replies.Done) (search rules) (λ spent. spent) (λ takes. takes, tt)) form
+    (kept_by D.told _ (D.view old.outside) (D.view new.outside) done.frame.below.watched done.frame.below) (λ only. absurd only) (ap (λ v. v.locked) done.frame.rest, refl)
 
 pub returns-clause-images : goal.returns-clause-images
 returns-clause-images g c tells s h whole suits can d =

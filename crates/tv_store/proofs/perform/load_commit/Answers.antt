@@ -19,7 +19,7 @@ returns-clause-performs g c =
       fits = λ never. never;
       cause = record { faults = record { quiet = loaded.faults.quiet; free = loaded.faults.free; reads = λ locks. tt; cause = tt }; readable = λ tells s h whole. (loaded.shown tells s h whole).1 };
     })
-    loaded.frame refl
+    loaded.frame refl refl
 
 pub returns-in_err-shown-clause-performs : goal.returns-in_err-shown-clause-performs
 returns-in_err-shown-clause-performs g c =
@@ -32,7 +32,7 @@ returns-in_err-shown-clause-performs g c =
       fits = tt;
       cause = record { faults = record { quiet = tt; free = λ locks. tt; reads = failed.faults.reads; cause = failed.faults.cause }; readable = λ tells s h whole. tt };
     })
-    failed.frame refl)
+    failed.frame refl refl)
 
 pub returns-clause-images : goal.returns-clause-images
 returns-clause-images g c tells s h whole suits can d =

@@ -15,7 +15,7 @@ returns-then-branch-clause-performs g c =
     let opens = c.in_ok-open.ensures.opened c.if-branch.true in
     on_one_file D _ old new _ c.args.name c.requires (inl refl)
     (λ tells s h whole suits. file_made D old new s c.args.name c.requires.file c.open.ensures.frame.below.watched [] h tells c.open.ensures.frame.form c.open.ensures.frame.collections opens)
-    c.open.ensures.others (λ bound short. short_same bound 0 new.open_files new.open_files refl (short_opened bound old.open_files new.open_files c.args.name opens.open_files short)) (search rules) c.open.ensures.frame (λ spent. spent) (λ takes. takes) (λ only. only) c.open.ensures.frame.below.watched
+    c.open.ensures.others (λ bound short. short_same bound 0 new.open_files new.open_files refl (short_opened bound old.open_files new.open_files c.args.name opens.open_files short)) (search rules) c.open.ensures.frame (λ spent. spent) (λ takes. takes, tt) (λ only. only) c.open.ensures.frame.below.watched refl
 
 pub returns-in_err-open-clause-performs : goal.returns-in_err-open-clause-performs
 returns-in_err-open-clause-performs g c =
@@ -23,7 +23,7 @@ returns-in_err-open-clause-performs g c =
     let old = c.args.files.now in
     let new = c.open.new.self in
     on_one_file D _ old new _ c.args.name c.requires (search rules) (λ tells s h whole suits. search rules) c.open.ensures.others
-    (λ bound short. short_same bound 0 _ new.open_files c.in_err-open.ensures.kept short) (search rules) c.open.ensures.frame (λ spent. spent) (λ takes. takes) (λ only. only) c.open.ensures.frame.below.watched
+    (λ bound short. short_same bound 0 _ new.open_files c.in_err-open.ensures.kept short) (search rules) c.open.ensures.frame (λ spent. spent) (λ takes. takes, tt) (λ only. only) c.open.ensures.frame.below.watched refl
 
 pub returns-else-branch-clause-performs : goal.returns-else-branch-clause-performs
 returns-else-branch-clause-performs g c =
@@ -33,7 +33,7 @@ returns-else-branch-clause-performs g c =
     let finds = c.in_ok-open.ensures.found c.if-branch.false in
     on_one_file D _ old new _ c.args.name c.requires (inr refl)
     (λ tells s h whole suits. name_taken D old new s c.args.name c.requires.file c.open.ensures.frame.below.watched [] h tells whole suits c.open.ensures.frame.form c.open.ensures.frame.collections finds)
-    c.open.ensures.others (λ bound short. short_same bound 0 _ new.open_files finds.open_files short) (search rules) c.open.ensures.frame (λ spent. spent) (λ takes. takes) (λ only. only) c.open.ensures.frame.below.watched
+    c.open.ensures.others (λ bound short. short_same bound 0 _ new.open_files finds.open_files short) (search rules) c.open.ensures.frame (λ spent. spent) (λ takes. takes, tt) (λ only. only) c.open.ensures.frame.below.watched refl
 
 pub returns-then-branch-clause-images : goal.returns-then-branch-clause-images
 returns-then-branch-clause-images g c tells s h whole suits can d =

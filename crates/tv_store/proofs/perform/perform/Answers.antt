@@ -13,8 +13,8 @@ returns-in-Nothing-clause-performs g c =
     let D = g.O.Directory in
     let files = c.args.files.now in
     subst (λ action. Performs D action files files (Ok replies.Done)) (sym c.in-Nothing.is)
-    (memory_only D actions.Nothing files files (Ok replies.Done) (λ spent. spent) (λ takes. takes) refl refl refl (omega arith)
-    (λ bound short. short_same bound 0 files.open_files files.open_files refl short) refl (λ s h. (refl, h, λ commit e. cc)) tt)
+    (memory_only D actions.Nothing files files (Ok replies.Done) (λ spent. spent) (λ takes. takes, tt) refl refl refl (omega arith)
+    (λ bound short. short_same bound 0 files.open_files files.open_files refl short) refl (λ s h. (refl, h, λ commit e. cc)) tt (refl, refl))
 
 pub returns-in-Nothing-clause-images : goal.returns-in-Nothing-clause-images
 returns-in-Nothing-clause-images g c =

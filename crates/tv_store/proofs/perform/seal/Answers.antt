@@ -12,7 +12,7 @@ returns-in_err-seal-clause-performs g c =
     let old = c.args.files.now in
     let new = c.seal.new.self in
     on_one_file D _ old new _ c.args.name c.requires.name (search rules) (λ tells s h whole suits. search rules) (λ tells n other list. c.seal.ensures.others tells n other)
-    (λ bound short. short_same bound 0 _ new.open_files c.seal.ensures.open_files (short_closed bound old.open_files _ c.args.name refl short)) (search rules) (as_made D c.seal.ensures.rest.frame) (λ spent. spent) (λ takes. takes) (λ only. only) c.seal.ensures.rest.frame.below.watched
+    (λ bound short. short_same bound 0 _ new.open_files c.seal.ensures.open_files (short_closed bound old.open_files _ c.args.name refl short)) (search rules) (as_made D c.seal.ensures.rest.frame) (λ spent. spent) (λ takes. takes, tt) (λ only. only) c.seal.ensures.rest.frame.below.watched refl
 
 pub returns-clause-performs : goal.returns-clause-performs
 returns-clause-performs g c =
@@ -23,7 +23,7 @@ returns-clause-performs g c =
     on_one_file D _ old new _ c.args.name c.requires.name refl
     (λ tells s h whole suits. file_sealed D old new s c.args.name c.requires.name.file c.seal.ensures.rest.frame.below.watched [] h it.0 it.1 (c.in_ok-seal.ensures.sealed tells it.0 it.1) c.seal.ensures.rest.frame c.seal.ensures.open_files c.seal.ensures.closed)
     (λ tells n other list. c.seal.ensures.others tells n other)
-    (λ bound short. short_same bound 0 _ new.open_files c.seal.ensures.open_files (short_closed bound old.open_files _ c.args.name refl short)) (search rules) (as_made D c.seal.ensures.rest.frame) (λ spent. spent) (λ takes. takes) (λ only. only) c.seal.ensures.rest.frame.below.watched
+    (λ bound short. short_same bound 0 _ new.open_files c.seal.ensures.open_files (short_closed bound old.open_files _ c.args.name refl short)) (search rules) (as_made D c.seal.ensures.rest.frame) (λ spent. spent) (λ takes. takes, tt) (λ only. only) c.seal.ensures.rest.frame.below.watched refl
 
 pub returns-clause-images : goal.returns-clause-images
 returns-clause-images g c tells s h whole suits can d =

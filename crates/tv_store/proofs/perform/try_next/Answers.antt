@@ -43,8 +43,8 @@ returns-clause-performs g c =
     )
     (λ tells. told.others tells meta_name told.spares) (λ tells. c.collect_delete.ensures.dotted tells)
     (λ bound short. short_same bound 0 new.open_files new.open_files refl (c.collect_delete.ensures.lens bound short)) (omega (arith, ap (λ (k : Collections). k.next) told.collections))
-    (plain_faults D (actions.Try number) old new _ (search rules) (λ spent. spent) (λ takes. takes)) frame.form
-    (kept_by_deletes D.told (actions.Try number) (D.view old.outside) (D.view new.outside) tt frame.below.watched frame.below) (λ only. absurd only)
+    (plain_faults D (actions.Try number) old new _ (search rules) (λ spent. spent) (λ takes. takes, tt)) frame.form
+    (kept_by_deletes D.told (actions.Try number) (D.view old.outside) (D.view new.outside) tt frame.below.watched frame.below) (λ only. absurd only) (frame.locked, refl)
 
 pub returns-in_err-tried-clause-performs : goal.returns-in_err-tried-clause-performs
 returns-in_err-tried-clause-performs g c =
@@ -54,8 +54,8 @@ returns-in_err-tried-clause-performs g c =
     let frame = c.collect_delete.ensures.frame in
     on_files D (actions.Try c.args.number) old new c.from_residual.result (search rules) (search rules) (λ tells. c.in_err-tried.ensures.same tells meta_name) (λ tells. c.collect_delete.ensures.dotted tells)
     (λ bound short. short_same bound 0 new.open_files new.open_files refl (c.collect_delete.ensures.lens bound short)) (search rules)
-    (plain_faults D (actions.Try c.args.number) old new c.from_residual.result (search rules) (λ spent. spent) (λ takes. takes)) frame.form
-    (kept_by_deletes D.told (actions.Try c.args.number) (D.view old.outside) (D.view new.outside) tt frame.below.watched frame.below) (λ only. absurd only)
+    (plain_faults D (actions.Try c.args.number) old new c.from_residual.result (search rules) (λ spent. spent) (λ takes. takes, tt)) frame.form
+    (kept_by_deletes D.told (actions.Try c.args.number) (D.view old.outside) (D.view new.outside) tt frame.below.watched frame.below) (λ only. absurd only) (frame.locked, refl)
 
 pub returns-clause-images : goal.returns-clause-images
 returns-clause-images g c tells s h whole suits can d =

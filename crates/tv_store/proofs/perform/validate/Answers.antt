@@ -15,7 +15,7 @@ returns-clause-performs g c =
     let new = c.find_damaged.new.files in
     asks_only D action old new c.find_damaged.result c.find_damaged.ensures.gives
     (λ tells s held whole suits. IfOk-weaker c.find_damaged.result _ _ (λ reply is. (is, refl, λ commit e. unsaved_report s c.args.names.items commit reply is e)) (c.find_damaged.ensures.found tells s held suits))
-    (plain_faults D action old new c.find_damaged.result c.find_damaged.ensures.faults (λ never. never) (λ never. never)) c.find_damaged.ensures.frame refl
+    (plain_faults D action old new c.find_damaged.result c.find_damaged.ensures.faults (λ never. never) (λ never. never, tt)) c.find_damaged.ensures.frame refl refl
 
 pub returns-clause-images : goal.returns-clause-images
 returns-clause-images g c tells s h whole suits can d =

@@ -1,7 +1,7 @@
 use Rattle.std.proofs.Common.{◌≡◌, true, codes, map, string_bytes}
 use Rattle.std.specs.List.{list_all}
 use Rattle.tv_formats.specs.Names.{is_plain}
-use Rattle.tv_machine.specs.Lines.{line}
+use Rattle.tv_events.specs.AnswerLines.{line}
 use Rattle.tv_catalog.proofs.catalog.Catalog.managed.Given as goal
 
 abbrev pub invariant-loop-name : goal.invariant-loop-name

@@ -9,6 +9,7 @@ returns-in-Ok-clause-created g c =
       settings_is = made.settings_is;
       schema_is = made.schema_is;
       kept = made.kept;
+      executor = made.executor;
       managed = managed_one _ c.create.result tt c.create.ensures.new.reads _ _ _ made;
       collections = made.collections;
       saved = made.saved tt;

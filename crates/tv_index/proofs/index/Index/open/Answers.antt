@@ -15,7 +15,7 @@ returns-in-Ok-clause-opened g c =
     rw c.from_parts.ensures (record {
       meta = c.in-Ok.meta;
       loads = loads_before D c.args.directory c.in_ok-directory.directory wraps None c.in-Ok.meta loaded.meta;
-      shows = record { settings = refl; schema = refl; kept = refl };
+      shows = record { settings = refl; schema = refl; kept = refl; executor = refl };
       lists = λ t. subst (λ (names : ManagedNames). Listing (D.view c.args.directory).reads names.managed) (sym loaded.frame.names) (wraps.names t);
       collections = ap (λ (names : ManagedNames). names.collections) loaded.frame.names ∙ wraps.collections;
       quiet = loaded.faults.quiet ∙ wraps.quiet;

@@ -7,7 +7,7 @@ returns-clause-opened g c =
     rw c.from_parts.ensures (record {
       meta = c.in_ok-directory.meta;
       opens = c.in_ok-directory.ensures.opened;
-      shows = record { settings = refl; schema = refl; kept = refl };
+      shows = record { settings = refl; schema = refl; kept = refl; executor = refl };
     })
 
 pub returns-in_err-directory-clause-safe : goal.returns-in_err-directory-clause-safe

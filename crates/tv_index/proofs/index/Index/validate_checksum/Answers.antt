@@ -27,7 +27,7 @@ returns-in_err-meta g c =
       damaged = λ t. no_answer c.from_residual.result _ c.from_residual.ensures.0;
       faults = subst (λ (index : IndexState g.row.D.Denot). ValidateFaults D index.directory now.0 index.schema c.from_residual.result) c.self.view_is
           (validate_fails D c.self.inside.directory now.0 c.self.inside.schema c.from_residual.result c.in_err-meta.field-0.0 c.from_residual.ensures.1 failed.faults.cause);
-      frame = subst (λ (index : IndexState g.row.D.Denot). KeepsIndex (OnlyReads D.told) D.view index (record { directory = now; settings = c.self.inside.settings; schema = c.self.inside.schema; kept = c.self.inside.inventory })) c.self.view_is (keeps_index c.self.inside.settings c.self.inside.schema c.self.inside.inventory failed.frame);
+      frame = subst (λ (index : IndexState g.row.D.Denot). KeepsIndex (OnlyReads D.told) D.view index (record { directory = now; settings = c.self.inside.settings; schema = c.self.inside.schema; kept = c.self.inside.inventory; executor = c.self.inside.executor })) c.self.view_is (keeps_index c.self.inside.settings c.self.inside.schema c.self.inside.inventory c.self.inside.executor failed.frame);
       images = λ t. subst (λ (index : IndexState g.row.D.Denot). KeepsDisk (D.disk index.directory.0) (D.disk now.0)) c.self.view_is (failed.images t);
     }
 
@@ -41,7 +41,7 @@ returns-in_err-names g c =
       damaged = λ t. no_answer answer.result _ answer.ensures.0;
       faults = subst (λ (index : IndexState g.row.D.Denot). ValidateFaults D index.directory now.0 index.schema answer.result) c.self.view_is
           (validate_fails D c.self.inside.directory now.0 c.self.inside.schema answer.result errors.Memory answer.ensures.1 loaded.faults.quiet);
-      frame = subst (λ (index : IndexState g.row.D.Denot). KeepsIndex (OnlyReads D.told) D.view index (record { directory = now; settings = c.self.inside.settings; schema = c.self.inside.schema; kept = c.self.inside.inventory })) c.self.view_is (keeps_index c.self.inside.settings c.self.inside.schema c.self.inside.inventory loaded.frame);
+      frame = subst (λ (index : IndexState g.row.D.Denot). KeepsIndex (OnlyReads D.told) D.view index (record { directory = now; settings = c.self.inside.settings; schema = c.self.inside.schema; kept = c.self.inside.inventory; executor = c.self.inside.executor })) c.self.view_is (keeps_index c.self.inside.settings c.self.inside.schema c.self.inside.inventory c.self.inside.executor loaded.frame);
       images = λ t. subst (λ (index : IndexState g.row.D.Denot). KeepsDisk (D.disk index.directory.0) (D.disk now.0)) c.self.view_is (loaded.images t);
     }
 
@@ -50,8 +50,8 @@ returns-clause-frame g c =
     let D = g.D.Directory in
     let first = c.in_ok-meta.ensures.frame in
     let later = c.damaged_among.ensures.frame in
-    subst (λ (index : IndexState g.row.D.Denot). KeepsIndex (OnlyReads D.told) D.view index (record { directory = c.damaged_among.new.directory; settings = c.self.inside.settings; schema = c.self.inside.schema; kept = c.self.inside.inventory })) c.self.view_is
-    (keeps_index c.self.inside.settings c.self.inside.schema c.self.inside.inventory (record { names = later.names ∙ first.names; below = reads_then first.below later.below }))
+    subst (λ (index : IndexState g.row.D.Denot). KeepsIndex (OnlyReads D.told) D.view index (record { directory = c.damaged_among.new.directory; settings = c.self.inside.settings; schema = c.self.inside.schema; kept = c.self.inside.inventory; executor = c.self.inside.executor })) c.self.view_is
+    (keeps_index c.self.inside.settings c.self.inside.schema c.self.inside.inventory c.self.inside.executor (record { names = later.names ∙ first.names; below = reads_then first.below later.below }))
 
 pub returns-clause-images : goal.returns-clause-images
 returns-clause-images g c t =

@@ -25,6 +25,7 @@ loop-name-preserved-in_ok-insert g c =
       form = ap (λ v. v.form) whole ∙ inv.form;
       managed = ap (λ v. v.managed) whole ∙ inv.managed;
       collections = ap (λ v. v.collections) whole ∙ inv.collections;
+      locked = ap (λ v. v.locked) whole ∙ inv.locked;
       lens = λ bound h. lens_cut bound now.open_files _ (is_at (byte_cmp name)) (ap (λ v. v.open_files) whole) (inv.lens bound h);
     }
 
@@ -50,6 +51,7 @@ loop-name-preserved g c =
       form = ap (λ v. v.form) done.abandoned ∙ inv.form;
       managed = ap (λ v. v.managed) done.abandoned ∙ inv.managed;
       collections = ap (λ v. v.collections) done.abandoned ∙ inv.collections;
+      locked = ap (λ v. v.locked) done.abandoned ∙ inv.locked;
       lens = λ bound h. lens_cut bound now.open_files c.abandon.new.self.open_files (is_at (byte_cmp name)) (ap (λ v. v.open_files) done.abandoned) (inv.lens bound h);
     }
 
@@ -57,9 +59,9 @@ pub returns-in_err-insert-clause-others : goal.returns-in_err-insert-clause-othe
 returns-in_err-insert-clause-others g c =
     let inv = c.loop-name.invariant in
     let whole = c.self.view_is ∙ c.abandon.ensures.abandoned in
-    others_stay _ c.args.self.now (ap (λ v. v.outside) whole ∙ inv.outside) (ap (λ v. v.form) whole ∙ inv.form) (ap (λ v. v.managed) whole ∙ inv.managed) (ap (λ v. v.collections) whole ∙ inv.collections)
+    others_stay _ c.args.self.now (ap (λ v. v.outside) whole ∙ inv.outside) (ap (λ v. v.form) whole ∙ inv.form) (ap (λ v. v.managed) whole ∙ inv.managed) (ap (λ v. v.collections) whole ∙ inv.collections) (ap (λ v. v.locked) whole ∙ inv.locked)
 
 pub returns-clause-others : goal.returns-clause-others
 returns-clause-others g c =
     let inv = c.loop-name.invariant in
-    others_stay c.loop-name.self c.args.self.now inv.outside inv.form inv.managed inv.collections
+    others_stay c.loop-name.self c.args.self.now inv.outside inv.form inv.managed inv.collections inv.locked

@@ -17,5 +17,6 @@ invariant-loop-name g l =
       form : now.form ≡ old.form;
       managed : now.managed ≡ old.managed;
       collections : now.collections ≡ old.collections;
+      locked : now.locked ≡ old.locked;
       lens : (bound : ℕ) → AllByRecursion (λ e. length e.1 ≤ bound) old.open_files → AllByRecursion (λ e. length e.1 ≤ bound) now.open_files;
     }

@@ -1,0 +1,6 @@
+pub mod Numbers
+pub mod WordLaws
+pub mod GrammarLaws
+pub mod Feeds
+pub mod LineLemmas
+pub mod LineLaws

@@ -1,0 +1,4 @@
+pub mod Fields
+pub mod EventWords
+pub mod ScriptLines
+pub mod ScriptCauses

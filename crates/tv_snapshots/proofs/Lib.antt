@@ -1,0 +1,4 @@
+pub mod ListLaws
+pub mod FileNames
+pub mod SegmentOrder
+pub mod Reloading

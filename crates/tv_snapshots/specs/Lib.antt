@@ -1,0 +1,3 @@
+pub mod SegmentOrder
+pub mod Reloads
+pub mod SearcherLines

@@ -1,0 +1,4 @@
+pub mod Measures
+pub mod CommitReports
+pub mod Earlier
+pub mod EveryPart

@@ -1,0 +1,4 @@
+pub mod ReportLines
+pub mod Reports
+pub mod Measuring
+pub mod Laws
