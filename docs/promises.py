@@ -19,7 +19,7 @@ import re
 import sys
 
 CRATES = pathlib.Path(__file__).resolve().parent.parent / "crates"
-TESTS = ("tv_test_support", "tv_tests", "tv_replay_tests", "tv_cases", "tv_timings", "tv")
+TESTS = ("tv_test_support", "tv_tests", "tv_reader_tests", "tv_replay_tests", "tv_cases", "tv_timings", "tv")
 
 # Each or some value of a type.
 EACH = r"\([\w ,]+ : .*\)"

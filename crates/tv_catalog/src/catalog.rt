@@ -1,5 +1,5 @@
 //! What is known of an index without asking its directory.
-ghost use Rattle.std.specs.Prelude.{◌≡◌, ◌<◌, ◌+◌, ◌||◌, List, ℕ, IfErr, IfOk, None, OnErr, OnOk, map, string_bytes, Some, true};
+ghost use Rattle.std.specs.Prelude.{◌≡◌, ◌<◌, ◌+◌, ◌||◌, List, ℕ, IfErr, IfOk, None, OnErr, OnOk, map, option_map, string_bytes, Some, true};
 ghost use Rattle.std.specs.Option.{option_copied};
 ghost use Rattle.std.specs.List.{AllByRecursion, list_all};
 ghost use Rattle.tv_machine.specs.CommitEvents.{chosen, first_unknown, last_stamp};
@@ -320,6 +320,15 @@ impl Catalog {
         ensures { option_copied result ≡ reader_at self.now number }
     {
         self.readers.reader(number)
+    }
+
+    /// What the reader of this number shows, where there is one. Takes no memory.
+    pub fn shown_by(&self, number: u64) -> Option<&Snapshot>
+        ensures { option_copied result
+            ≡ option_map (λ reader. reader.shown) (reader_at self.now number) }
+    {
+        let reader = self.reader(number)?;
+        Some(reader.shown())
     }
 
     /// Whether the meta lock is held for a reload. Takes no memory.

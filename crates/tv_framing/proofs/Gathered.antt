@@ -18,13 +18,13 @@ use Rattle.tv_framing.specs.PerField.{AreByName, InNameOrder, IsBelow, all_of, g
 use Rattle.tv_framing.specs.Places.{IsGap, IsPlace, by_name, with_field}
 use Rattle.tv_framing.proofs.Parts.{all_get}
 
-below_trans : (a b c : FieldSpace) → IsBelow a b → IsBelow b c → IsBelow a c
+pub below_trans : (a b c : FieldSpace) → IsBelow a b → IsBelow b c → IsBelow a c
 below_trans a b c p q = nat_list_cmp_total.trans a.name b.name c.name p q
 
-turned : (a b : FieldSpace) (c : Ordering) → byte_cmp a.name b.name ≡ c → byte_cmp b.name a.name ≡ ordering_reverse c
+pub turned : (a b : FieldSpace) (c : Ordering) → byte_cmp a.name b.name ≡ c → byte_cmp b.name a.name ≡ ordering_reverse c
 turned a b c h = nat_list_cmp_total.antisymm b.name a.name ∙ ap ordering_reverse h
 
-all_map : (P Q : FieldSpace → Type 0) → ((x : FieldSpace) → P x → Q x) → (xs : List FieldSpace) → AllByRecursion P xs → AllByRecursion Q xs
+pub all_map : (P Q : FieldSpace → Type 0) → ((x : FieldSpace) → P x → Q x) → (xs : List FieldSpace) → AllByRecursion P xs → AllByRecursion Q xs
 all_map P Q f [] h = tt
 all_map P Q f (x ∷ xs) h = (f x h.0, all_map P Q f xs h.1)
 
@@ -52,7 +52,7 @@ order_with f (g ∷ gs) h = order_by f g gs (byte_cmp f.name g.name) refl (order
 
 -- ---- what stands under a name then
 
-none_named : (n : List ℕ) (xs : List FieldSpace) → AllByRecursion (λ x. byte_cmp n x.name ≡ Less) xs → find (is_named n) xs ≡ None
+pub none_named : (n : List ℕ) (xs : List FieldSpace) → AllByRecursion (λ x. byte_cmp n x.name ≡ Less) xs → find (is_named n) xs ≡ None
 none_named n [] h = refl
 none_named n (x ∷ xs) h = ap (λ c. cond (is_eq c) (Some x) (find (is_named n) xs)) h.0 ∙ none_named n xs h.1
 

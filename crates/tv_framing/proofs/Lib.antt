@@ -5,6 +5,7 @@ pub mod Opening
 pub mod FooterEnds
 pub mod Gathered
 pub mod Joining
+pub mod Reordered
 pub mod Reported
 pub mod Summed
 pub mod Proxied

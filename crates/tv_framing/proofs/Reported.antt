@@ -1,5 +1,5 @@
 -- Facts on reports of a composite file.
-use Rattle.std.proofs.Common.{◌≡◌, ◌<◌, ◌≤◌, ◌+◌, ◌-◌, ℕ, Bool, true, Option, None, Some, List, [], ◌∷◌, length, drop, fold, get_or, nat_le, nat_lt, replicate, slice_range, sum_by, refl, sym, ap, ◌∙◌, arith, length-drop}
+use Rattle.std.proofs.Common.{◌≡◌, ◌<◌, ◌≤◌, ◌+◌, ◌-◌, ℕ, Bool, true, Option, None, Some, List, [], ◌∷◌, ◌++◌, length, drop, get_or, nat_le, nat_lt, replicate, slice_range, sum_by, refl, sym, ap, ◌∙◌, arith, append_assoc, length-drop}
 use Rattle.std.proofs.lemmas.List.{length-take-le, length-replicate, length-append}
 use Rattle.std.proofs.lemmas.List.Folds.{sum_by-replicate}
 use Rattle.std.proofs.lemmas.List.Sums.{sum_by-cons, sum_by-set}
@@ -10,7 +10,6 @@ use Rattle.tv_framing.specs.declared.address.FileAddr.{FileAddr}
 use Rattle.tv_framing.specs.declared.starts.Start.{Start}
 use Rattle.tv_framing.specs.Composite.{Part, bodies}
 use Rattle.tv_framing.specs.Fields.{FieldSpace, field_sum, part_alone, with_part}
-use Rattle.tv_framing.specs.Places.{by_name, with_field}
 use Rattle.tv_framing.specs.PerField.{fields_sum}
 use Rattle.tv_framing.specs.Usage.{bytes_of}
 use Rattle.tv_framing.specs.Reports.{usage_of, usages}
@@ -24,7 +23,7 @@ pub record IsReporting (names : List (List ℕ)) (starts : List Start) (n i end 
   pub ascend : Ascend from (drop i starts) end
   pub below : list_all (λ (a : FileAddr). nat_lt a.field n) (start_addresses (drop i starts)) ≡ true
   pub small : list_all (λ (a : FileAddr). nat_le a.idx 65535) (start_addresses (drop i starts)) ≡ true
-  pub made : (bytes : List ℕ) → length bytes ≡ end → fold with_field so_far (usages names (parts_of bytes (drop i starts))) ≡ by_name (usages names (parts_of bytes starts))
+  pub made : (bytes : List ℕ) → length bytes ≡ end → so_far ++ usages names (parts_of bytes (drop i starts)) ≡ usages names (parts_of bytes starts)
 
 all_rest : (p : FileAddr → Bool) (starts : List Start) (i : ℕ) (s : Start) → drop i starts ≡ s ∷ drop (i + 1) starts → list_all p (start_addresses (drop i starts)) ≡ true → (p s.addr ≡ true) × (list_all p (start_addresses (drop (i + 1) starts)) ≡ true)
 all_rest p starts i s front h =
@@ -36,7 +35,7 @@ next_fits names starts n i end so_far s r front =
     grind (arith, all_rest)
 
 pub reports_on : (names : List (List ℕ)) (starts : List Start) (n i end to : ℕ) (so_far now : List FieldSpace) (s : Start) → IsReporting names starts n i end so_far → drop i starts ≡ s ∷ drop (i + 1) starts → to ≡ next_start end (drop (i + 1) starts)
-    → now ≡ with_field so_far (part_alone (get_or names s.addr.field []) s.addr.idx (record { 0 = to - s.offset })) → IsReporting names starts n (i + 1) end now
+    → now ≡ so_far ++ part_alone (get_or names s.addr.field []) s.addr.idx (record { 0 = to - s.offset }) ∷ [] → IsReporting names starts n (i + 1) end now
 reports_on names starts n i end to so_far now s r front to_is now_is =
     let inside = range_inside starts i r.from end to s front r.ascend to_is in record {
       from = s.offset;
@@ -47,8 +46,9 @@ reports_on names starts n i end to so_far now s r front to_is now_is =
           let stop : next_start (length bytes) (drop (i + 1) starts) ≡ to = ap (λ k. next_start k (drop (i + 1) starts)) e ∙ sym to_is in
           let long : length (slice_range bytes s.offset (next_start (length bytes) (drop (i + 1) starts))) ≡ to - s.offset =
           ap (λ k. length (slice_range bytes s.offset k)) stop ∙ length-take-le (to - s.offset) (drop s.offset bytes) (omega (arith, length-drop s.offset bytes, e, inside.1)) in
-          ap (λ (l : List FieldSpace). fold with_field l (usages names (parts_of bytes (drop (i + 1) starts)))) (now_is ∙ ap (λ k. with_field so_far (part_alone (get_or names s.addr.field []) s.addr.idx (record { 0 = k }))) (sym long))
-          ∙ ap (λ (l : List Start). fold with_field so_far (usages names (parts_of bytes l))) (sym front)
+          ap (λ (l : List FieldSpace). l ++ usages names (parts_of bytes (drop (i + 1) starts))) (now_is ∙ ap (λ k. so_far ++ part_alone (get_or names s.addr.field []) s.addr.idx (record { 0 = k }) ∷ []) (sym long))
+          ∙ append_assoc so_far (usage_of names (record { addr = s.addr; body = slice_range bytes s.offset (next_start (length bytes) (drop (i + 1) starts)) }) ∷ []) (usages names (parts_of bytes (drop (i + 1) starts)))
+          ∙ ap (λ (l : List Start). so_far ++ usages names (parts_of bytes l)) (sym front)
           ∙ r.made bytes e;
     }
 

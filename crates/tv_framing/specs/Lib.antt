@@ -12,6 +12,7 @@ pub mod FooterTrees
 pub mod FooterEnds
 pub mod Sealing
 pub mod Proxies
+pub mod NamedParts
 pub mod PerField
 pub mod Places
 pub mod Segments

@@ -1,15 +1,24 @@
 //! How much space the fields of a segment take.
-ghost use Rattle.std.specs.Prelude.{◌≡◌, ◌≤◌, [], IfOk, MatchResult, OnOk};
+ghost use Rattle.std.specs.Prelude.{◌≡◌, ◌≤◌, [], map, IfOk, MatchResult, OnOk};
 ghost use Rattle.std.specs.Slice.Iter.{iter_rest};
 ghost use Rattle.tv_framing.specs.Usage.{capped};
 ghost use Rattle.tv_framing.specs.PerField.{AreByName, UsesBytes, fields_sum};
 ghost use Rattle.tv_framing.specs.Fields.{part_alone};
-ghost use Rattle.tv_framing.specs.Places.{IsGap, IsPlace, with_field};
+ghost use Rattle.tv_framing.specs.Places.{IsGap, IsPlace, by_name, with_field};
+ghost use Rattle.tv_framing.specs.NamedParts.{alone};
 
 use crate::field_usage::FieldUsage;
 use std::alloc::Global;
 use std::marker::Model;
 use tv_base::{ByteCount, Memory};
+
+// The size of a body, under the name of its field.
+#[derive(Clone, Copy)]
+pub(crate) struct NamedPart<'a> {
+    pub(crate) name: &'a str,
+    pub(crate) idx: u16,
+    pub(crate) size: ByteCount,
+}
 
 /// The usages of several fields, in name order.
 pub type FieldUsages<'a> = std::slice::Iter<'a, FieldUsage>;
@@ -38,6 +47,9 @@ impl PerFieldSpaceUsage {
         ensures by_name { IfOk result (AreByName fields.items) }
         ensures total { IfOk result (λ usage. UsesBytes usage (fields_sum fields.items)) }
     {
+        let mut fields = fields;
+        // In the order of the names each new one goes to the end.
+        fields.sort_by(|one, other| one.field_name().cmp(other.field_name()))?;
         let mut usage = PerFieldSpaceUsage::empty(alloc);
         for field in fields {
             usage.add(field)?;
@@ -45,8 +57,25 @@ impl PerFieldSpaceUsage {
         Ok(usage)
     }
 
+    // What these parts take, by the names of their fields.
+    pub(crate) fn of_parts(
+        alloc: Global,
+        parts: Vec<NamedPart<'_>>,
+    ) -> Result<PerFieldSpaceUsage, Memory>
+        ensures { IfOk result (λ usage. usage ≡ by_name (map alone parts.entry.items)) }
+    {
+        let mut parts = parts;
+        // In the order of the names each new one goes to the end.
+        parts.sort_by_key(|part| part.name)?;
+        let mut usage = PerFieldSpaceUsage::empty(alloc);
+        for part in parts {
+            usage.add_part(part.name, part.idx as usize, part.size)?;
+        }
+        Ok(usage)
+    }
+
     // No usages.
-    pub(crate) fn empty(alloc: Global) -> PerFieldSpaceUsage
+    fn empty(alloc: Global) -> PerFieldSpaceUsage
         ensures { result ≡ [] }
     {
         PerFieldSpaceUsage {
@@ -71,7 +100,7 @@ impl PerFieldSpaceUsage {
     }
 
     // One part more of the field of this name.
-    pub(crate) fn add_part(&mut self, name: &str, idx: usize, size: ByteCount) -> Result<(), Memory>
+    fn add_part(&mut self, name: &str, idx: usize, size: ByteCount) -> Result<(), Memory>
         requires small { idx ≤ 65535 }
         ensures ok { OnOk result (self.new ≡ with_field self.old (part_alone name.now idx size)) }
     {

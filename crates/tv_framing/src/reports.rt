@@ -5,7 +5,7 @@ ghost use Rattle.tv_framing.specs.Places.{by_name};
 ghost use Rattle.tv_framing.specs.Reports.{usages};
 ghost use Rattle.tv_framing.specs.Starts.{Fill, parts_of, start_addresses};
 
-use crate::per_field_usage::PerFieldSpaceUsage;
+use crate::per_field_usage::{NamedPart, PerFieldSpaceUsage};
 use crate::ranges::end_of;
 use crate::starts::Start;
 use std::alloc::Global;
@@ -27,11 +27,14 @@ pub(crate) fn usage_by_name(
     ensures { (bytes : List ℕ) → length bytes ≡ end → IfOk result (λ usage.
         usage ≡ by_name (usages (map string_bytes names.now) (parts_of bytes starts.now))) }
 {
-    let mut usage = PerFieldSpaceUsage::empty(alloc);
+    let mut parts = Vec::with_capacity(alloc, starts.len())?;
     for (i, start) in starts.iter().enumerate() {
-        let name = names[start.addr.field.field_id() as usize].as_str();
-        let size = end_of(starts, i, end) as u64 - start.offset;
-        usage.add_part(name, start.addr.idx as usize, ByteCount(size))?;
+        let part = NamedPart {
+            name: names[start.addr.field.field_id() as usize].as_str(),
+            idx: start.addr.idx as u16,
+            size: ByteCount(end_of(starts, i, end) as u64 - start.offset),
+        };
+        parts.push(part)?;
     }
-    Ok(usage)
+    PerFieldSpaceUsage::of_parts(alloc, parts)
 }

@@ -6,3 +6,7 @@ pub mod Searches
 pub mod WarmingOrder
 pub mod SearchLaws
 pub mod CommitBodies
+pub mod UnderLock
+pub mod Counting
+pub mod WarmerErrors
+pub mod WarmingLaws

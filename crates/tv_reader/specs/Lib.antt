@@ -7,3 +7,8 @@ pub mod Searchers
 pub mod Searching
 pub mod Warming
 pub mod ReadLaws
+pub mod WarmingStates
+pub mod Readers
+pub mod Publishing
+pub mod ReaderStates
+pub mod Reloads

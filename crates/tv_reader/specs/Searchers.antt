@@ -5,11 +5,15 @@ use Rattle.tv_base.specs.declared.address.DocAddress.{DocAddress}
 use Rattle.tv_base.specs.declared.error.TantivyError.{TantivyError}
 use Rattle.tv_base.specs.declared.error.TantivyError.TheVariants as errors
 use Rattle.tv_formats.specs.declared.segment.SegmentComponent.TheVariants.{Store}
+use Rattle.tv_formats.specs.Commits.{Commit}
 use Rattle.tv_formats.specs.Names.{byte_cmp}
 use Rattle.tv_formats.specs.Segments.{name_of, num_docs}
 use Rattle.tv_framing.specs.Segments.{SegmentSpace}
 use Rattle.tv_machine.specs.State.{Snapshot}
+use Rattle.tv_metas.specs.Metas.{text_of}
 use Rattle.tv_metas.specs.Schemas.{HasNames}
+use Rattle.tv_metas.specs.declared.index_meta.UntrackedIndexMeta.{UntrackedIndexMeta}
+use Rattle.tv_reader.specs.Bodies.{shown_entry}
 use Rattle.tv_reader.specs.Segments.{SegmentShown, component_body}
 use Rattle.tv_reader.specs.Spaces.{HasNoSpace, IsSpaceOf}
 use Rattle.tv_reader.specs.StoreBodies.{IsNotStoreBody, IsStoreBody, not_store}
@@ -44,6 +48,44 @@ pub record CommitShown : Type 0 where
   pub payload : Option (List ℕ)
   pub segments : List SegmentShown
 
+-- a commit with the bodies of its files, as they were read
+pub record CommitRead : Type 0 where
+  pub schema : List ℕ
+  pub opstamp : ℕ
+  pub payload : Option (List ℕ)
+  pub segments : List SegmentShown
+
+-- a commit as `meta.json` had it, with the segments that were read
+abbrev pub read_as : UntrackedIndexMeta → List SegmentShown → CommitRead
+read_as meta segments = record {
+  schema = meta.schema;
+  opstamp = meta.opstamp;
+  payload = text_of meta.payload;
+  segments = segments;
+}
+
+-- a commit that was read, as it is shown in this generation
+abbrev pub shown_in : Generation → CommitRead → CommitShown
+shown_in generation commit = record {
+  generation = generation;
+  schema = commit.schema;
+  opstamp = commit.opstamp;
+  payload = commit.payload;
+  segments = commit.segments;
+}
+
+-- a commit that was read, as it is shown under a number of its reader
+abbrev pub shown_as : ℕ → CommitRead → CommitShown
+shown_as id commit = shown_in (generation_of id commit.segments) commit
+
+-- the commit that was read
+abbrev pub commit_read : CommitRead → Commit
+commit_read commit = record {
+  opstamp = commit.opstamp;
+  payload = commit.payload;
+  segments = map shown_entry commit.segments;
+}
+
 -- a searcher: by which ticket its reader counts it, and what it shows
 pub record SearcherState : Type 0 where
   pub ticket : ℕ
@@ -60,7 +102,7 @@ snapshot_of shown = record {
   commit = record {
     opstamp = shown.opstamp;
     payload = shown.payload;
-    segments = map (λ s. (s.id, s.segment)) shown.segments;
+    segments = map shown_entry shown.segments;
   };
   bodies = map (λ s. s.bodies) shown.segments;
 }

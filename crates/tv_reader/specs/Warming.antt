@@ -1,16 +1,18 @@
 -- How warmers are called.
-use Rattle.std.specs.Prelude.{◌≡◌, ◌⊎◌, ◌++◌, ℕ, zero, suc, Bool, false, true, not, eqb, IsTrue, List, [], ◌∷◌, Option, Some, None, is_some, Result, Ok, Err, slice_index_or, slice_set}
-use Rattle.std.specs.List.{list_any}
+use Rattle.std.specs.Prelude.{◌≡◌, ◌⊎◌, ◌++◌, ℕ, zero, suc, Bool, false, true, not, eqb, IsTrue, List, [], ◌∷◌, Option, Some, None, is_some, Result, Ok, Err, map, slice_index_or, slice_set}
+use Rattle.std.specs.List.{AllZip, list_any}
 use Rattle.tv_base.specs.declared.error.TantivyError.{TantivyError}
 use Rattle.tv_base.specs.declared.error.TantivyError.TheVariants.{Memory}
 use Rattle.tv_formats.specs.Files.{Rose}
+use Rattle.tv_reader.specs.Searchers.{CommitShown, Generation}
 
 module _ {W E : Type 0} (errors : W → ℕ) (test : W → E → Bool) where
-  -- a warmer, where it is left, answered no error
-  abbrev pub Quiet : Option W → Option W → Type 0
-  Quiet None b = b ≡ None
-  Quiet (Some a) None = ⊥
-  Quiet (Some a) (Some b) = (errors b ≡ errors a) × ((e : E) → test b e ≡ test a e)
+  -- a warmer, where it is left, was called and answered no error, and this is true of it since
+  abbrev pub Called : (W → Bool) → Option W → Option W → Type 0
+  Called done None b = b ≡ None
+  Called done (Some a) None = ⊥
+  Called done (Some a) (Some b) =
+      IsTrue (done b) × (errors b ≡ errors a) × ((e : E) → test b e ≡ test a e)
 
   -- a warmer answered this error: the count of its errors rose, and the error is one of its own
   abbrev pub Stopped : E → Option W → Option W → Type 0
@@ -27,6 +29,23 @@ InOrder Good Bad [] bs r = (bs ≡ []) × (r ≡ Ok tt)
 InOrder Good Bad (a ∷ rest) [] r = ⊥
 InOrder {E = E} Good Bad (a ∷ rest) (b ∷ bs) r =
     (Good a b × InOrder Good Bad rest bs r) ⊎ ((e : E) × (r ≡ Err e) × Bad e a b × (bs ≡ rest))
+
+-- where the count of a warmer's errors isn't what it was, those behind it are as they were
+abbrev pub EndsAtError : {W : Type 0} → (errors : W → ℕ) → (before now : List (Option W)) → Type 0
+EndsAtError errors [] now = now ≡ []
+EndsAtError errors (a ∷ rest) [] = ⊥
+EndsAtError errors (None ∷ rest) (b ∷ now) = (b ≡ None) × EndsAtError errors rest now
+EndsAtError errors (Some a ∷ rest) (None ∷ now) = ⊥
+EndsAtError errors (Some a ∷ rest) (Some b ∷ now) =
+    ((errors b ≡ errors a) × EndsAtError errors rest now) ⊎ (now ≡ rest)
+
+-- the count of the errors of one of these warmers rose, and it answers this error
+abbrev pub HasAnswered : {W E : Type 0} → (errors : W → ℕ) → (test : W → E → Bool) → (error : E)
+    → (before now : List (Option W)) → Type 0
+HasAnswered errors test error (None ∷ rest) (b ∷ now) = HasAnswered errors test error rest now
+HasAnswered errors test error (Some a ∷ rest) (Some b ∷ now) =
+    (Rose (errors a) (errors b) × IsTrue (test b error)) ⊎ HasAnswered errors test error rest now
+HasAnswered errors test error before now = ⊥
 
 -- the element at a place is changed so, and no other
 pub record Changes {S : Type 0} (R : S → S → Type 0) (before now : List S) (i : ℕ) : Type 0 where
@@ -47,13 +66,36 @@ UpTo R (suc n) (x ∷ xs) (y ∷ ys) = R x y × UpTo R n xs ys
 abbrev pub has_ended : (warmed live : List ℕ) → Bool
 has_ended warmed live = list_any (λ id. not (list_any (λ other. eqb other id) live)) warmed
 
--- A searcher of this generation was warmed, by each warmer that is left, up to the first error, and the
--- generation was recorded; or nothing was done, since no warmer is left, or for want of memory.
-abbrev pub Warms : {W : Type 0} → (errors : W → ℕ) → (test : W → TantivyError → Bool) → (id : ℕ)
-    → (warmed now_warmed : List ℕ) → (slots now_slots : List (Option W)) → Result (Unit {0}) TantivyError
-    → Type 0
-Warms errors test id warmed now_warmed slots now_slots r =
-    ((now_warmed ≡ warmed) × (now_slots ≡ slots)
-    × (((list_any is_some slots ≡ false) × (r ≡ Ok tt)) ⊎ (r ≡ Err Memory)))
-    ⊎ ((list_any is_some slots ≡ true) × (now_warmed ≡ warmed ++ id ∷ [])
-    × InOrder (Quiet errors test) (Stopped errors test) slots now_slots r)
+-- what a reader has of its warmers: the generations that were warmed, by their numbers, and each warmer at its
+-- place, where it is left
+pub record WarmersState (W : Type 0) : Type 0 where
+  pub warmed : List ℕ
+  pub left : List (Option W)
+
+-- these warmers, none of which warmed anything
+abbrev pub new_warmers : {W : Type 0} → List W → WarmersState W
+new_warmers warmers = record { warmed = []; left = map Some warmers }
+
+-- the warmers without the one of this number
+abbrev pub without_warmer : {W : Type 0} → ℕ → WarmersState W → WarmersState W
+without_warmer number s = record s { left = slice_set s.left number None }
+
+module _ {W : Type 0} (errors : W → ℕ) (test : W → TantivyError → Bool) where
+  -- What a searcher shows was warmed by each warmer that is left, in order, up to the first error, and its
+  -- generation was recorded; or nothing was done, since no warmer is left, or for want of memory.
+  abbrev pub Warms : (ready : W → CommitShown → Bool) → CommitShown → (old new : WarmersState W)
+      → Result (Unit {0}) TantivyError → Type 0
+  Warms ready shown old new r =
+      ((new ≡ old) × (((list_any is_some old.left ≡ false) × (r ≡ Ok tt)) ⊎ (r ≡ Err Memory)))
+      ⊎ ((list_any is_some old.left ≡ true) × (new.warmed ≡ old.warmed ++ shown.generation.id ∷ [])
+      × InOrder (Called errors test (λ w. ready w shown)) (Stopped errors test) old.left new.left r)
+
+  -- Whether a generation that was warmed isn't live any more. If so, each warmer that is left was told the
+  -- live ones, in order, and these are taken as warmed; else nothing was done.
+  abbrev pub Collects : (told : W → List Generation → Bool) → List Generation
+      → (old new : WarmersState W) → Bool → Type 0
+  Collects told live old new true =
+      (has_ended old.warmed (map (λ g. g.id) live) ≡ true) × (new.warmed ≡ map (λ g. g.id) live)
+      × AllZip (Called errors test (λ w. told w live)) old.left new.left
+  Collects told live old new false =
+      (has_ended old.warmed (map (λ g. g.id) live) ≡ false) × (new ≡ old)

@@ -1,14 +1,26 @@
 //! Laws of readers: what a user relies on, of the calls that each makes.
-ghost use Rattle.std.specs.Prelude.{◌≡◌, ◌⊎◌, ℕ, List, Result, Err, IfErr, IfOk, Ok, Some, length, map};
-ghost use Rattle.std.specs.List.{enumerate_from};
+ghost use Rattle.std.specs.Prelude.{◌≡◌, ◌<◌, ◌+◌, ◌⊎◌, ℕ, List, None, Result, Err, IfErr, IfOk, IfSome, Ok, OnErr, OnOk, Some, length, map};
+ghost use Rattle.std.specs.List.{AllByRecursion, enumerate_from};
 ghost use Rattle.tv_base.specs.Maps.{IsOf, first_error};
+ghost use Rattle.tv_formats.specs.Commits.{Commit};
+ghost use Rattle.tv_reader.specs.Bodies.{IsRead};
+ghost use Rattle.tv_reader.specs.Readers.{IsLocked, IsReadOut, OfNoted};
+ghost use Rattle.tv_reader.specs.ReaderStates.{seen, warming_of};
+ghost use Rattle.tv_reader.specs.Reloads.{LoadCause, NotesLast};
+ghost use Rattle.tv_reader.specs.Searchers.{snapshot_of};
 ghost use Rattle.tv_reader.specs.Searching.{GivesChild, IsRefused};
 ghost use Rattle.tv_reader.specs.Segments.{SegmentShown};
+ghost use Rattle.tv_reader.specs.Warming.{EndsAtError, HasAnswered};
+ghost use Rattle.tv_reader.specs.WarmingStates.{warmers_of};
 
+use crate::index_reader::IndexReader;
 use crate::search::{Collector, Query};
 use crate::searcher::Searcher;
+use crate::warming_state::WarmingState;
 use std::thread::Threads;
-use tv_base::{Executor, TantivyError};
+use tv_base::{Executor, Opstamp, TantivyError};
+use tv_device::Directory;
+use tv_index::Index;
 
 /// No segment is dropped: what is merged is as many children as there are segments, by any number of
 /// threads.
@@ -42,4 +54,117 @@ pub fn a_search_answers_the_first_error<R: Threads + Sync, Q: Query, C: Collecto
         ⊎ (first_error (map g (enumerate_from 0 searcher.now.shown.segments)) ≡ Some e)) }
 {
     searcher.search(rt, query, collector, executor)
+}
+
+/// A `reload` that fails leaves what is shown: a searcher that is taken then shows what was shown before.
+pub fn a_failed_reload_leaves_what_is_shown<D: Directory>(
+    reader: &mut IndexReader,
+    index: &mut Index<D>,
+) -> Result<Option<Searcher>, TantivyError>
+    requires idle { (seen reader.old).reload ≡ None }
+    ensures { IfOk result (λ taken. IfSome taken (λ searcher. searcher ≡ (seen reader.old).shown)) }
+{
+    match reader.reload(index) {
+        Ok(()) => Ok(None),
+        Err(_) => Ok(Some(reader.searcher()?)),
+    }
+}
+
+/// Each commit is shown under a larger number than the one before, whichever call shows it.
+pub fn each_reload_shows_a_larger_number<D: Directory>(
+    reader: &mut IndexReader,
+    index: &mut Index<D>,
+) -> Result<u64, TantivyError>
+    requires idle { (seen reader.old).reload ≡ None }
+    ensures first { IfOk result (λ id. (seen reader.old).next < id) }
+    ensures last { IfOk result (λ id. (seen reader.new).shown.shown.generation.id ≡ id) }
+{
+    reader.reload(index)?;
+    reader.reload_lock(index)?;
+    reader.reload_open(index)?;
+    reader.reload_publish()
+}
+
+/// No commit is shown under a number whose successor would pass `u64::MAX`.
+pub fn no_number_passes_the_last_one<D: Directory>(
+    reader: &mut IndexReader,
+    index: &mut Index<D>,
+) -> Result<u64, TantivyError>
+    requires idle { (seen reader.old).reload ≡ None }
+    ensures left { OnOk result ((seen reader.old).next < 18446744073709551615) }
+    ensures next { IfOk result (λ next. next ≡ (seen reader.old).next + 1) }
+{
+    reader.reload(index)?;
+    Ok(reader.next_generation())
+}
+
+/// A reload in steps shows the commit that was the last one when it began, with the bodies that its files
+/// had: not the one with which the reader was built.
+pub fn a_reload_in_steps_shows_the_last_commit<D: Directory>(
+    reader: &mut IndexReader,
+    index: &mut Index<D>,
+) -> Result<Opstamp, TantivyError>
+    requires idle { (seen reader.old).reload ≡ None }
+    ensures commit { IfOk result (λ opstamp. (schema : List ℕ) × (commit : Commit)
+        × NotesLast D.Directory index.old schema commit × (opstamp ≡ commit.opstamp)
+        × ((snapshot_of (seen reader.new).shown.shown).commit ≡ commit)) }
+    ensures bodies { D.told.content → OnOk result
+        (AllByRecursion (IsRead (D.view index.old.directory.0).reads)
+        (seen reader.new).shown.shown.segments) }
+{
+    let opstamp = reader.reload_lock(index)?;
+    reader.reload_open(index)?;
+    reader.reload_publish()?;
+    Ok(opstamp)
+}
+
+/// The end of a reload shows the commit that it has noted, whatever was committed since.
+pub fn a_reload_in_steps_shows_what_it_noted<D: Directory>(
+    reader: &mut IndexReader,
+    index: &mut Index<D>,
+) -> Result<u64, TantivyError>
+    requires locked { IsLocked (seen reader.old).reload }
+    ensures { OnOk result (OfNoted (seen reader.old).reload (λ schema commit lock.
+        ((seen reader.new).shown.shown.schema ≡ schema)
+        × ((snapshot_of (seen reader.new).shown.shown).commit ≡ commit))) }
+{
+    reader.reload_open(index)?;
+    reader.reload_publish()
+}
+
+/// A warming ends at the first error: where a warmer answers one, those behind it aren't called.
+pub fn a_warming_ends_at_the_first_error(
+    state: &mut WarmingState,
+    searcher: &Searcher,
+) -> Result<(), TantivyError>
+    ensures { EndsAtError (λ w. errors w) (warmers_of state.old).left (warmers_of state.new).left }
+{
+    state.warm_new_searcher_generation(searcher)
+}
+
+/// A `reload` invents no warmer's error: where it isn't another cause, the count of one of the reader's
+/// warmers rose, and this one answers such errors.
+pub fn a_reload_invents_no_warmers_error<D: Directory>(
+    reader: &mut IndexReader,
+    index: &mut Index<D>,
+) -> Result<(), TantivyError>
+    requires idle { (seen reader.old).reload ≡ None }
+    ensures { IfErr result (λ e. LoadCause D.Directory index.old index.new e
+        ⊎ (((e ≡ TantivyError.Exhausted) ⊎ (e ≡ TantivyError.Memory))
+        ⊎ HasAnswered (λ w. errors w) (λ w. test w) e (warmers_of (warming_of reader.old)).left
+        (warmers_of (warming_of reader.new)).left)) }
+{
+    reader.reload(index)
+}
+
+/// The end of a reload in steps invents no warmer's error either.
+pub fn a_reload_in_steps_invents_no_warmers_error(
+    reader: &mut IndexReader,
+) -> Result<u64, TantivyError>
+    requires read { IsReadOut (seen reader.old).reload }
+    ensures { IfErr result (λ e. ((e ≡ TantivyError.Exhausted) ⊎ (e ≡ TantivyError.Memory))
+        ⊎ HasAnswered (λ w. errors w) (λ w. test w) e (warmers_of (warming_of reader.old)).left
+        (warmers_of (warming_of reader.new)).left) }
+{
+    reader.reload_publish()
 }

@@ -14,41 +14,44 @@ use crate::segment_reader::SegmentReader;
 use std::alloc::Global;
 use std::marker::Model;
 use std::sync::Arc;
-use tv_base::{DocAddress, FileSlice, IoError, Opstamp, TantivyError, Ticket};
+use tv_base::{DocAddress, FileSlice, IoError, Memory, Opstamp, TantivyError, Ticket};
 use tv_framing::SearcherSpaceUsage;
-use tv_metas::Schema;
+use tv_metas::{Schema, UntrackedIndexMeta};
+
+/// A commit with the bodies of its files, as they were read.
+#[derive(Drop)]
+pub(crate) struct ReadCommit {
+    // A reload that noted the commit has it too.
+    pub(crate) meta: Arc<UntrackedIndexMeta, Global>,
+    pub(crate) segment_readers: Vec<SegmentReader>,
+}
+
+impl Model for ReadCommit {
+    ghost use Rattle.std.specs.Arc.{arc_value};
+    ghost use Rattle.tv_reader.specs.Searchers.{CommitRead, read_as};
+
+    ghost Value = { CommitRead };
+
+    ghost view = { λ c. read_as (arc_value c.meta) c.segment_readers.items };
+}
 
 /// What is shown of a commit. Searchers have it together.
 #[derive(Drop)]
 pub(crate) struct Shown {
     pub(crate) generation: SearcherGeneration,
-    pub(crate) schema: Schema,
-    pub(crate) opstamp: Opstamp,
-    pub(crate) payload: Option<String>,
-    pub(crate) segment_readers: Vec<SegmentReader>,
+    // A reload has it too, until it is published.
+    pub(crate) commit: Arc<ReadCommit, Global>,
 }
 
 impl Model for Shown {
-    ghost use Rattle.tv_metas.specs.Metas.{text_of};
-    ghost use Rattle.tv_reader.specs.Searchers.{CommitShown, IsOfSegments};
+    ghost use Rattle.std.specs.Arc.{arc_value};
+    ghost use Rattle.tv_reader.specs.Searchers.{CommitShown, IsOfSegments, shown_in};
 
     ghost Value = { CommitShown };
 
-    ghost view = { λ s. record {
-      generation = s.generation;
-      schema = s.schema;
-      opstamp = s.opstamp;
-      payload = text_of s.payload;
-      segments = s.segment_readers.items;
-    } };
+    ghost view = { λ s. shown_in s.generation (arc_value s.commit) };
 
-    ghost invariant = { λ s. IsOfSegments (record {
-      generation = s.generation;
-      schema = s.schema;
-      opstamp = s.opstamp;
-      payload = text_of s.payload;
-      segments = s.segment_readers.items;
-    }) };
+    ghost invariant = { λ s. IsOfSegments (shown_in s.generation (arc_value s.commit)) };
 }
 
 /// Shows a commit of the index for life: later commits and collections don't change what it shows. Its
@@ -76,6 +79,20 @@ impl Searcher {
         Searcher { ticket, shown }
     }
 
+    // One more share of what it shows. Nothing of that is copied.
+    pub(crate) fn share(&self) -> Result<Arc<Shown, Global>, Memory>
+        ensures shown { IfOk result (λ shown. arc_value shown ≡ self.now.shown) }
+    {
+        Ok(Arc::try_clone(&self.shown)?)
+    }
+
+    // The ticket by which it is counted.
+    pub(crate) fn ticket(&self) -> &Ticket
+        ensures ticket { result.now ≡ self.now.ticket }
+    {
+        &self.ticket
+    }
+
     // The ticket by which it is counted, taken out. Takes no memory.
     pub(crate) fn into_ticket(self) -> Ticket
         ensures { result ≡ self.ticket }
@@ -85,7 +102,7 @@ impl Searcher {
 
     // The allocator that it was made with. Takes no memory.
     pub(crate) fn allocator(&self) -> Global {
-        *self.shown.segment_readers.allocator()
+        *self.shown.commit.segment_readers.allocator()
     }
 
     /// Which segments it shows, and under which number of its reader.
@@ -100,21 +117,21 @@ impl Searcher {
     pub fn schema(&self) -> &Schema
         ensures schema { result.now ≡ self.now.shown.schema }
     {
-        &self.shown.schema
+        &self.shown.commit.meta.schema
     }
 
     /// The number of the commit that it shows. Takes no memory.
     pub fn opstamp(&self) -> Opstamp
         ensures opstamp { result ≡ self.now.shown.opstamp }
     {
-        self.shown.opstamp
+        self.shown.commit.meta.opstamp
     }
 
     /// What the writer of the commit added. Takes no memory.
     pub fn payload(&self) -> Option<&str>
         ensures payload { option_copied result ≡ self.now.shown.payload }
     {
-        self.shown.payload.as_deref()
+        self.shown.commit.meta.payload.as_deref()
     }
 
     /// How many documents are living. The sum stays at `u64::MAX`.
@@ -128,7 +145,7 @@ impl Searcher {
     pub fn segment_readers(&self) -> &[SegmentReader]
         ensures segments { result.now ≡ self.now.shown.segments }
     {
-        self.shown.segment_readers.as_slice()
+        self.shown.commit.segment_readers.as_slice()
     }
 
     /// A segment, and `None` exactly where there is none at this place.

@@ -1,12 +1,13 @@
 //! The warmers of a reader, each at its place.
-ghost use Rattle.std.specs.Prelude.{◌≡◌, ◌<◌, [], IfErr, IfOk, None, OnErr, OnOk, Some, false, get_or, is_some, map, slice_set, true, vec_len};
+ghost use Rattle.std.specs.Prelude.{◌≡◌, ◌<◌, IfErr, IfOk, None, OnErr, OnOk, Some, get_or, is_some, map, vec_len};
 ghost use Rattle.std.specs.List.{AllZip, list_any};
-ghost use Rattle.tv_reader.specs.Warming.{Changes, InOrder, Quiet, Stopped, Warms, has_ended};
+ghost use Rattle.tv_reader.specs.Warming.{Called, Changes, Collects, InOrder, Stopped, Warms, has_ended, new_warmers, without_warmer};
 
 use crate::generation::SearcherGeneration;
 use crate::searcher::Searcher;
 use crate::warmer::Warmer;
 use std::alloc::Global;
+use std::marker::Model;
 use tv_base::{Memory, TantivyError};
 
 /// The warmers that are left, each at its place, and the numbers of the generations that they warmed.
@@ -16,9 +17,18 @@ pub struct Warmers<W> {
     slots: Vec<Option<W>>,
 }
 
+impl<W> Model for Warmers<W> {
+    ghost use Rattle.tv_reader.specs.Warming.{WarmersState};
+
+    ghost Value = { WarmersState W };
+
+    ghost view = { λ a. record { warmed = a.warmed.items; left = a.slots.items } };
+}
+
 // Warms by one warmer, where it is left.
 fn warm_one<W: Warmer>(slot: &mut Option<W>, searcher: &Searcher) -> Result<(), TantivyError>
-    ensures ok { OnOk result (Quiet W.errors W.test slot.old slot.new) }
+    ensures ok { OnOk result (Called W.errors W.test (λ w. W.ready w searcher.now.shown)
+        slot.old slot.new) }
     ensures err { IfErr result (λ e. Stopped W.errors W.test e slot.old slot.new) }
 {
     let Some(warmer) = slot else {
@@ -37,7 +47,9 @@ fn warm_at<W: Warmer>(
     searcher: &Searcher,
 ) -> Result<(), TantivyError>
     requires { i < vec_len slots.old }
-    ensures ok { OnOk result (Changes (Quiet W.errors W.test) slots.old.items slots.new.items i) }
+    ensures ok { OnOk result (Changes
+        (Called W.errors W.test (λ w. W.ready w searcher.now.shown))
+        slots.old.items slots.new.items i) }
     ensures err { IfErr result (λ e.
         Changes (Stopped W.errors W.test e) slots.old.items slots.new.items i) }
 {
@@ -49,8 +61,8 @@ fn warm_at<W: Warmer>(
 
 // Warms by each in order, up to the first error.
 fn warm_all<W: Warmer>(slots: &mut Vec<Option<W>>, searcher: &Searcher) -> Result<(), TantivyError>
-    ensures { InOrder (Quiet W.errors W.test) (Stopped W.errors W.test)
-        slots.old.items slots.new.items result }
+    ensures { InOrder (Called W.errors W.test (λ w. W.ready w searcher.now.shown))
+        (Stopped W.errors W.test) slots.old.items slots.new.items result }
 {
     for i in 0..slots.len() {
         if let Err(error) = warm_at(slots, i, searcher) {
@@ -62,7 +74,7 @@ fn warm_all<W: Warmer>(slots: &mut Vec<Option<W>>, searcher: &Searcher) -> Resul
 
 // Hands live generations to one warmer, where it is left.
 fn collect_one<W: Warmer>(slot: &mut Option<W>, live: &[SearcherGeneration])
-    ensures { Quiet W.errors W.test slot.old slot.new }
+    ensures { Called W.errors W.test (λ w. W.knows w live.now) slot.old slot.new }
 {
     if let Some(warmer) = slot {
         warmer.garbage_collect(live);
@@ -72,14 +84,16 @@ fn collect_one<W: Warmer>(slot: &mut Option<W>, live: &[SearcherGeneration])
 // Hands live generations to the warmer at a place.
 fn collect_at<W: Warmer>(slots: &mut Vec<Option<W>>, i: usize, live: &[SearcherGeneration])
     requires { i < vec_len slots.old }
-    ensures { Changes (Quiet W.errors W.test) slots.old.items slots.new.items i }
+    ensures { Changes (Called W.errors W.test (λ w. W.knows w live.now))
+        slots.old.items slots.new.items i }
 {
     collect_one(&mut slots[i], live);
 }
 
 // Hands live generations to each, in order.
 fn collect_all<W: Warmer>(slots: &mut Vec<Option<W>>, live: &[SearcherGeneration])
-    ensures { AllZip (Quiet W.errors W.test) slots.old.items slots.new.items }
+    ensures { AllZip (Called W.errors W.test (λ w. W.knows w live.now))
+        slots.old.items slots.new.items }
 {
     for i in 0..slots.len() {
         collect_at(slots, i, live);
@@ -125,8 +139,7 @@ fn placed<W: Drop>(alloc: Global, warmers: Vec<W>) -> Result<Vec<Option<W>>, Mem
 impl<W: Drop> Warmers<W> {
     // These warmers, at places from 0 on. None of them warmed anything.
     pub(crate) fn new(alloc: Global, warmers: Vec<W>) -> Result<Warmers<W>, Memory>
-        ensures warmed { IfOk result (λ new. new.warmed.items ≡ []) }
-        ensures slots { IfOk result (λ new. new.slots.items ≡ map Some warmers.items) }
+        ensures { IfOk result (λ new. new ≡ new_warmers warmers.items) }
     {
         Ok(Warmers {
             warmed: Vec::new(alloc),
@@ -136,9 +149,8 @@ impl<W: Drop> Warmers<W> {
 
     // The warmer at a place, taken out. Takes no memory.
     pub(crate) fn take_warmer(&mut self, number: usize) -> Option<W>
-        ensures warmer { result ≡ get_or self.old.slots.items number None }
-        ensures left { self.new.slots.items ≡ slice_set self.old.slots.items number None }
-        ensures warmed { self.new.warmed ≡ self.old.warmed }
+        ensures warmer { result ≡ get_or self.old.left number None }
+        ensures left { self.new ≡ without_warmer number self.old }
     {
         if number < self.slots.len() {
             self.slots[number].take()
@@ -152,8 +164,7 @@ impl<W: Warmer> Warmers<W> {
     // Warms a new searcher by each in order, up to the first error. Its generation is one that was
     // warmed, also after a warmer's error. Without warmers nothing is done.
     pub(crate) fn warm_new(&mut self, searcher: &Searcher) -> Result<(), TantivyError>
-        ensures { Warms W.errors W.test searcher.now.shown.generation.id self.old.warmed.items
-            self.new.warmed.items self.old.slots.items self.new.slots.items result }
+        ensures { Warms W.errors W.test W.ready searcher.now.shown self.old self.new result }
     {
         if !has_some(self.slots.as_slice()) {
             return Ok(());
@@ -165,12 +176,8 @@ impl<W: Warmer> Warmers<W> {
     // Hands the live generations to each, in order, where one that was warmed isn't live any more.
     // Then the live ones are those that were warmed.
     pub(crate) fn collect_ended(&mut self, live: &[SearcherGeneration]) -> Result<bool, Memory>
-        ensures ended { IfOk result (λ ended.
-            ended ≡ has_ended self.old.warmed.items (map (λ g. g.id) live.now)) }
-        ensures yes { IfOk result (λ ended. ended ≡ true
-            → (self.new.warmed.items ≡ map (λ g. g.id) live.now)
-            × AllZip (Quiet W.errors W.test) self.old.slots.items self.new.slots.items) }
-        ensures no { IfOk result (λ ended. ended ≡ false → self.new ≡ self.old) }
+        ensures ok { IfOk result
+            (Collects W.errors W.test W.knows live.now self.old self.new) }
         ensures err { OnErr result (self.new ≡ self.old) }
     {
         let ids = ids_of(*self.warmed.allocator(), live)?;

@@ -1,7 +1,7 @@
 //! What a reader has of its warmers.
-ghost use Rattle.std.specs.Prelude.{◌≡◌, [], IfOk, None, OnErr, Some, false, get_or, map, slice_set, true};
-ghost use Rattle.std.specs.List.{AllZip};
-ghost use Rattle.tv_reader.specs.Warming.{Quiet, Warms, has_ended};
+ghost use Rattle.std.specs.Prelude.{◌≡◌, IfOk, None, OnErr, get_or};
+ghost use Rattle.tv_reader.specs.Warming.{Collects, Warms, new_warmers, without_warmer};
+ghost use Rattle.tv_reader.specs.WarmingStates.{threads_of, warmers_of};
 
 use crate::generation::SearcherGeneration;
 use crate::searcher::Searcher;
@@ -14,8 +14,8 @@ use tv_base::{Memory, TantivyError};
 /// called by the caller, one after the other.
 #[derive(Drop)]
 pub struct WarmingState {
-    num_warming_threads: usize,
-    warmers: Warmers<Box<dyn Warmer + Send + Drop>>,
+    pub(crate) num_warming_threads: usize,
+    pub(crate) warmers: Warmers<Box<dyn Warmer + Send + Drop>>,
 }
 
 impl WarmingState {
@@ -26,10 +26,8 @@ impl WarmingState {
         num_warming_threads: usize,
         warmers: Vec<Box<dyn Warmer + Send + Drop>>,
     ) -> Result<WarmingState, Memory>
-        ensures threads { IfOk result (λ state. state.num_warming_threads ≡ num_warming_threads) }
-        ensures warmed { IfOk result (λ state. state.warmers.warmed.items ≡ []) }
-        ensures slots { IfOk result (λ state.
-            state.warmers.slots.items ≡ map Some warmers.items) }
+        ensures threads { IfOk result (λ state. threads_of state ≡ num_warming_threads) }
+        ensures warmers { IfOk result (λ state. warmers_of state ≡ new_warmers warmers.items) }
     {
         Ok(WarmingState {
             num_warming_threads,
@@ -41,9 +39,8 @@ impl WarmingState {
     /// as warmed, also where a warmer answers an error. Without warmers nothing is recorded. Where
     /// memory is wanted for the record, no warmer is called, and nothing is recorded.
     pub fn warm_new_searcher_generation(&mut self, searcher: &Searcher) -> Result<(), TantivyError>
-        ensures warms { Warms (λ w. errors w) (λ w. test w) searcher.now.shown.generation.id
-            self.old.warmers.warmed.items self.new.warmers.warmed.items
-            self.old.warmers.slots.items self.new.warmers.slots.items result }
+        ensures warms { Warms (λ w. errors w) (λ w. test w) (λ w. ready w) searcher.now.shown
+            (warmers_of self.old) (warmers_of self.new) result }
     {
         self.warmers.warm_new(searcher)
     }
@@ -51,13 +48,8 @@ impl WarmingState {
     /// Calls the warmers exactly where a generation that was warmed isn't among the live ones any more,
     /// and tells whether it did. Then the live ones are taken as warmed.
     pub fn gc_maybe(&mut self, live: &[SearcherGeneration]) -> Result<bool, Memory>
-        ensures ended { IfOk result (λ ended.
-            ended ≡ has_ended self.old.warmers.warmed.items (map (λ g. g.id) live.now)) }
-        ensures yes { IfOk result (λ ended. ended ≡ true
-            → (self.new.warmers.warmed.items ≡ map (λ g. g.id) live.now)
-            × AllZip (Quiet (λ w. errors w) (λ w. test w))
-            self.old.warmers.slots.items self.new.warmers.slots.items) }
-        ensures no { IfOk result (λ ended. ended ≡ false → self.new ≡ self.old) }
+        ensures collects { IfOk result (Collects (λ w. errors w) (λ w. test w) (λ w. knows w)
+            live.now (warmers_of self.old) (warmers_of self.new)) }
         ensures err { OnErr result (self.new ≡ self.old) }
     {
         self.warmers.collect_ended(live)
@@ -66,10 +58,8 @@ impl WarmingState {
     /// The warmer of a number, taken out; `None` exactly where none of this number is left. Takes no
     /// memory.
     pub fn release_warmer(&mut self, number: usize) -> Option<Box<dyn Warmer + Send + Drop>>
-        ensures warmer { result ≡ get_or self.old.warmers.slots.items number None }
-        ensures left { self.new.warmers.slots.items
-            ≡ slice_set self.old.warmers.slots.items number None }
-        ensures warmed { self.new.warmers.warmed ≡ self.old.warmers.warmed }
+        ensures warmer { result ≡ get_or (warmers_of self.old).left number None }
+        ensures left { warmers_of self.new ≡ without_warmer number (warmers_of self.old) }
     {
         self.warmers.take_warmer(number)
     }

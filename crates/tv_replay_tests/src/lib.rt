@@ -24,8 +24,6 @@ mod opening_crashes;
 #[cfg(test)]
 mod places;
 #[cfg(test)]
-mod readers;
-#[cfg(test)]
 mod replayed_folders;
 #[cfg(test)]
 mod replays;

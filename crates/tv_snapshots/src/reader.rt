@@ -65,6 +65,13 @@ impl Reader {
         }
     }
 
+    /// What it shows. Takes no memory.
+    pub fn shown(&self) -> &Snapshot
+        ensures { result.now ≡ self.now.shown }
+    {
+        &self.shown
+    }
+
     /// The number of its next snapshot. Takes no memory.
     pub fn next_generation(&self) -> u64
         ensures { result ≡ self.now.next }

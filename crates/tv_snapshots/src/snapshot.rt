@@ -1,5 +1,5 @@
 //! What is shown of a commit: its segments, with the bodies of their required files.
-ghost use Rattle.std.specs.Prelude.{◌≡◌, map, slice_get, IfOk, Option};
+ghost use Rattle.std.specs.Prelude.{◌≡◌, length, map, slice_get, IfOk, Option};
 ghost use Rattle.std.specs.Option.{option_copied, option_map};
 ghost use Rattle.tv_machine.specs.SearcherEvents.{place_of, body_at, show_line, bytes_line};
 ghost use Rattle.tv_events.specs.AnswerLines.{segment_word, line};
@@ -162,6 +162,13 @@ impl Snapshot {
         ensures { result ≡ self.now.commit.opstamp }
     {
         self.loaded.opstamp
+    }
+
+    /// How many segments the commit has. Takes no memory.
+    pub fn segment_count(&self) -> usize
+        ensures { result ≡ length self.now.commit.segments }
+    {
+        self.loaded.segments.len()
     }
 
     /// The body of a component's file of the segment at a place. Takes no memory.
