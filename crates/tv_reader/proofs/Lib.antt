@@ -10,3 +10,5 @@ pub mod UnderLock
 pub mod Counting
 pub mod WarmerErrors
 pub mod WarmingLaws
+pub mod CollectionLaws
+pub mod Live

@@ -31,34 +31,38 @@ no_value v f is = cc
 
 module _ {W S C F E : Type 0} (memory : E) (weighed : Result W E → Type 0) (checked : Result (Unit {0}) E → Type 0) (matched : W → ℕ → S → Result (List ℕ) E → Type 0)
     (collected : List ℕ → ℕ → S → Result C E → Type 0) (merged : List C → Result F E → Type 0) (segments : List S) where
-  all_merged : (v : F) (w : W) → MergesBy (matched w) collected merged segments (Ok v) → (children : List C) × (length children ≡ length segments) × merged children (Ok v)
-  all_merged v w (inl h) = (h.0, as_long _ _ _ h.1.each ∙ length-enumerate_from 0 segments, h.2)
-  all_merged v w (inr h) = absurd (no_value v h.0 h.2)
+  abbrev OfAll : F → Type 0
+  OfAll v = (w : W) × (children : List C) × weighed (Ok w) × (length children ≡ length segments)
+      × AllZip (λ at child. GivesChild (matched w) collected at (Ok child)) (enumerate_from 0 segments) children × merged children (Ok v)
 
-  found_all : (v : F) → Searched memory weighed checked matched collected merged segments (Ok v) → (children : List C) × (length children ≡ length segments) × merged children (Ok v)
+  all_merged : (v : F) (w : W) → weighed (Ok w) → MergesBy (matched w) collected merged segments (Ok v) → OfAll v
+  all_merged v w given (inl h) = (w, h.0, given, as_long _ _ _ h.1.each ∙ length-enumerate_from 0 segments, h.1.each, h.2)
+  all_merged v w given (inr h) = absurd (no_value v h.0 h.2)
+
+  found_all : (v : F) → Searched memory weighed checked matched collected merged segments (Ok v) → OfAll v
   found_all v (inl h) = absurd (no_value v memory h)
   found_all v (inr (inl h)) = absurd (no_value v h.0 h.2)
   found_all v (inr (inr (w, given, inl h))) = absurd (no_value v h.0 h.2)
-  found_all v (inr (inr (w, given, inr h))) = all_merged v w h.1
+  found_all v (inr (inr (w, given, inr h))) = all_merged v w given h.1
 
   pub drops_none : (r : Result F E) → Searched memory weighed checked matched collected merged segments r
-      → IfOk r (λ v. (children : List C) × (length children ≡ length segments) × merged children (Ok v))
+      → IfOk r (λ v. OfAll v)
   drops_none (Ok v) h = found_all v h
   drops_none (Err e) h = tt
 
-  module _ (g : ℕ × S → Result C E) (of : (w : W) → IsOf (GivesChild (matched w) collected) g) where
-    first_merged : (e : E) (w : W) → MergesBy (matched w) collected merged segments (Err e)
+  module _ (g : ℕ × S → Result C E) (of : (w : W) → weighed (Ok w) → IsOf (GivesChild (matched w) collected) g) where
+    first_merged : (e : E) (w : W) → weighed (Ok w) → MergesBy (matched w) collected merged segments (Err e)
         → IsRefused memory weighed checked merged e ⊎ (first_error (map g (enumerate_from 0 segments)) ≡ Some e)
-    first_merged e w (inl h) = inl (inr (inr (inr (h.0, h.2))))
-    first_merged e w (inr h) =
-        inr (is_first (GivesChild (matched w) collected) g (of w) (enumerate_from 0 segments) h.0 h.1 ∙ ap Some (sym (same_error e h.0 h.2)))
+    first_merged e w given (inl h) = inl (inr (inr (inr (h.0, h.2))))
+    first_merged e w given (inr h) =
+        inr (is_first (GivesChild (matched w) collected) g (of w given) (enumerate_from 0 segments) h.0 h.1 ∙ ap Some (sym (same_error e h.0 h.2)))
 
     found_first : (e : E) → Searched memory weighed checked matched collected merged segments (Err e)
         → IsRefused memory weighed checked merged e ⊎ (first_error (map g (enumerate_from 0 segments)) ≡ Some e)
     found_first e (inl h) = inl (inl (same_error e memory h))
     found_first e (inr (inl h)) = inl (inr (inl (subst (λ x. weighed (Err x)) (sym (same_error e h.0 h.2)) h.1)))
     found_first e (inr (inr (w, given, inl h))) = inl (inr (inr (inl (subst (λ x. checked (Err x)) (sym (same_error e h.0 h.2)) h.1))))
-    found_first e (inr (inr (w, given, inr h))) = first_merged e w h.1
+    found_first e (inr (inr (w, given, inr h))) = first_merged e w given h.1
 
     pub fails_first : (r : Result F E) → Searched memory weighed checked matched collected merged segments r
         → IfErr r (λ e. IsRefused memory weighed checked merged e ⊎ (first_error (map g (enumerate_from 0 segments)) ≡ Some e))

@@ -7,7 +7,7 @@ use Rattle.tv_base.specs.declared.error.TantivyError.TheVariants.{Exhausted, Mem
 use Rattle.tv_reader.specs.Publishing.{UnpublishedBy}
 use Rattle.tv_reader.specs.Readers.{CountCause, FilesRead, Noted, OfRead, ReaderState, ReloadState}
 use Rattle.tv_reader.specs.Searchers.{CommitRead, CommitShown, shown_as}
-use Rattle.tv_reader.specs.Warming.{Called, EndsAtError, HasAnswered, InOrder, Stopped, WarmersState, Warms}
+use Rattle.tv_reader.specs.Warming.{Called, EndsAtError, HasAnswered, InOrder, Stopped, Warmed, WarmerCall, WarmersState, Warms}
 
 abbrev err_of : {A E : Type 0} → E → Result A E
 err_of e = Err e
@@ -15,67 +15,67 @@ err_of e = Err e
 same_error : {A E : Type 0} (e f : E) → err_of {A = A} e ≡ err_of f → f ≡ e
 same_error e f h = cc
 
-module _ {W : Type 0} (errors : W → ℕ) (test : W → TantivyError → Bool) where
+module _ {W : Type 0} (errors : W → ℕ) (test : W → TantivyError → Bool) (called_for : W → Option (List WarmerCall)) where
   unchanged : (ws : List (Option W)) → EndsAtError errors ws ws
   unchanged [] = refl
   unchanged (None ∷ rest) = (refl, unchanged rest)
   unchanged (Some a ∷ rest) = inr refl
 
-  ends : (done : W → Bool) (before now : List (Option W)) (r : Result (Unit {0}) TantivyError) → InOrder (Called errors test done) (Stopped errors test) before now r → EndsAtError errors before now
-  ends done [] now r h = h.0
-  ends done (a ∷ rest) [] r h = absurd h
-  ends done (None ∷ rest) (b ∷ now) r (inl h) = (h.0, ends done rest now r h.1)
-  ends done (None ∷ rest) (b ∷ now) r (inr h) = absurd h.2
-  ends done (Some a ∷ rest) (None ∷ now) r (inl h) = absurd h.0
-  ends done (Some a ∷ rest) (None ∷ now) r (inr h) = absurd h.2
-  ends done (Some a ∷ rest) (Some b ∷ now) r (inl h) = inl (h.0.1, ends done rest now r h.1)
-  ends done (Some a ∷ rest) (Some b ∷ now) r (inr h) = inr h.3
+  ends : (call : WarmerCall) (before now : List (Option W)) (r : Result (Unit {0}) TantivyError) → InOrder (Called errors test called_for call) (Stopped errors test called_for call) before now r → EndsAtError errors before now
+  ends call [] now r h = h.0
+  ends call (a ∷ rest) [] r h = absurd h
+  ends call (None ∷ rest) (b ∷ now) r (inl h) = (h.0, ends call rest now r h.1)
+  ends call (None ∷ rest) (b ∷ now) r (inr h) = absurd h.2
+  ends call (Some a ∷ rest) (None ∷ now) r (inl h) = absurd h.0
+  ends call (Some a ∷ rest) (None ∷ now) r (inr h) = absurd h.2
+  ends call (Some a ∷ rest) (Some b ∷ now) r (inl h) = inl (h.0.1, ends call rest now r h.1)
+  ends call (Some a ∷ rest) (Some b ∷ now) r (inr h) = inr h.3
 
   -- a warming ends at the first error
-  pub ends_at_error : (ready : W → CommitShown → Bool) (shown : CommitShown) (old new : WarmersState W) (r : Result (Unit {0}) TantivyError) → Warms errors test ready shown old new r → EndsAtError errors old.left new.left
-  ends_at_error ready shown old new r (inl h) =
+  pub ends_at_error : (shown : CommitShown) (old new : WarmersState W) (r : Result (Unit {0}) TantivyError) → Warms errors test called_for shown old new r → EndsAtError errors old.left new.left
+  ends_at_error shown old new r (inl h) =
       subst (λ (s : WarmersState W). EndsAtError errors old.left s.left) (sym h.0) (unchanged old.left)
-  ends_at_error ready shown old new r (inr h) = ends (λ w. ready w shown) old.left new.left r h.2
+  ends_at_error shown old new r (inr h) = ends (Warmed shown) old.left new.left r h.2
 
-  answered : (done : W → Bool) (before now : List (Option W)) (e : TantivyError) → InOrder (Called errors test done) (Stopped errors test) before now (Err e) → HasAnswered errors test e before now
-  answered done [] now e h = absurd (cc (h.1))
-  answered done (a ∷ rest) [] e h = absurd h
-  answered done (None ∷ rest) (b ∷ now) e (inl h) = answered done rest now e h.1
-  answered done (None ∷ rest) (b ∷ now) e (inr h) = absurd h.2
-  answered done (Some a ∷ rest) (None ∷ now) e (inl h) = absurd h.0
-  answered done (Some a ∷ rest) (None ∷ now) e (inr h) = absurd h.2
-  answered done (Some a ∷ rest) (Some b ∷ now) e (inl h) = inr (answered done rest now e h.1)
-  answered done (Some a ∷ rest) (Some b ∷ now) e (inr h) =
-      inl (h.2.0, subst (λ (f : TantivyError). IsTrue (test b f)) (same_error e h.0 h.1) h.2.1)
+  answered : (call : WarmerCall) (before now : List (Option W)) (e : TantivyError) → InOrder (Called errors test called_for call) (Stopped errors test called_for call) before now (Err e) → HasAnswered errors test e before now
+  answered call [] now e h = absurd (cc (h.1))
+  answered call (a ∷ rest) [] e h = absurd h
+  answered call (None ∷ rest) (b ∷ now) e (inl h) = answered call rest now e h.1
+  answered call (None ∷ rest) (b ∷ now) e (inr h) = absurd h.2
+  answered call (Some a ∷ rest) (None ∷ now) e (inl h) = absurd h.0
+  answered call (Some a ∷ rest) (None ∷ now) e (inr h) = absurd h.2
+  answered call (Some a ∷ rest) (Some b ∷ now) e (inl h) = inr (answered call rest now e h.1)
+  answered call (Some a ∷ rest) (Some b ∷ now) e (inr h) =
+      inl (h.2.1, subst (λ (f : TantivyError). IsTrue (test b f)) (same_error e h.0 h.1) h.2.2)
 
   -- why a commit isn't shown
-  pub why_unpublished : (ready : W → CommitShown → Bool) (commit : CommitRead) (old new : ReaderState) (before after : WarmersState W) (e : TantivyError) → UnpublishedBy errors test ready commit old new before after e
+  pub why_unpublished : (commit : CommitRead) (old new : ReaderState) (before after : WarmersState W) (e : TantivyError) → UnpublishedBy errors test called_for commit old new before after e
       → ((e ≡ Exhausted) ⊎ (e ≡ Memory)) ⊎ HasAnswered errors test e before.left after.left
-  why_unpublished ready commit old new before after e (inl h) = counts h.2 where
+  why_unpublished commit old new before after e (inl h) = counts h.2 where
     counts : CountCause (old.next ≡ 18446744073709551615) e → ((e ≡ Exhausted) ⊎ (e ≡ Memory)) ⊎ HasAnswered errors test e before.left after.left
     counts (inl k) = inl (inl k.0)
     counts (inr k) = inl (inr k)
-  why_unpublished ready commit old new before after e (inr h) = warms h.1 where
+  why_unpublished commit old new before after e (inr h) = warms h.1 where
     wanted : ((list_any is_some before.left ≡ false) × (err_of {A = Unit {0}} e ≡ Ok tt)) ⊎ (err_of {A = Unit {0}} e ≡ err_of Memory) → (e ≡ Exhausted) ⊎ (e ≡ Memory)
     wanted (inl k) = absurd (cc (k.1))
     wanted (inr k) = inr (sym (same_error e Memory k))
 
-    warms : Warms errors test ready (shown_as old.next commit) before after (Err e) → ((e ≡ Exhausted) ⊎ (e ≡ Memory)) ⊎ HasAnswered errors test e before.left after.left
+    warms : Warms errors test called_for (shown_as old.next commit) before after (Err e) → ((e ≡ Exhausted) ⊎ (e ≡ Memory)) ⊎ HasAnswered errors test e before.left after.left
     warms (inl k) = inl (wanted k.1)
-    warms (inr k) = inr (answered (λ w. ready w (shown_as old.next commit)) before.left after.left e k.2)
+    warms (inr k) = inr (answered (Warmed (shown_as old.next commit)) before.left after.left e k.2)
 
   -- why the last commit isn't shown
-  pub why_no_reload : {R : Type 0} (ready : W → CommitShown → Bool) (Same : Type 0) (Load : TantivyError → Type 0) (Loads : CommitRead → Type 0) (old new : ReaderState) (before after : WarmersState W) (result : Result R TantivyError)
-      → IfErr result (λ e. (Same × Load e) ⊎ ((commit : CommitRead) × Loads commit × UnpublishedBy errors test ready commit old new before after e)) → IfErr result (λ e. Load e ⊎ (((e ≡ Exhausted) ⊎ (e ≡ Memory)) ⊎ HasAnswered errors test e before.left after.left))
-  why_no_reload ready Same Load Loads old new before after (Ok r) h = tt
-  why_no_reload ready Same Load Loads old new before after (Err e) (inl h) = inl h.1
-  why_no_reload ready Same Load Loads old new before after (Err e) (inr h) =
-      inr (why_unpublished ready h.0 old new before after e h.2)
+  pub why_no_reload : {R : Type 0} (Same : Type 0) (Load : TantivyError → Type 0) (Loads : CommitRead → Type 0) (old new : ReaderState) (before after : WarmersState W) (result : Result R TantivyError)
+      → IfErr result (λ e. (Same × Load e) ⊎ ((commit : CommitRead) × Loads commit × UnpublishedBy errors test called_for commit old new before after e)) → IfErr result (λ e. Load e ⊎ (((e ≡ Exhausted) ⊎ (e ≡ Memory)) ⊎ HasAnswered errors test e before.left after.left))
+  why_no_reload Same Load Loads old new before after (Ok r) h = tt
+  why_no_reload Same Load Loads old new before after (Err e) (inl h) = inl h.1
+  why_no_reload Same Load Loads old new before after (Err e) (inr h) =
+      inr (why_unpublished h.0 old new before after e h.2)
 
   -- why the commit of a reload isn't shown
-  pub why_no_end : {R : Type 0} (ready : W → CommitShown → Bool) (reload : Option ReloadState) (old new : ReaderState) (before after : WarmersState W) (result : Result R TantivyError)
-      → IfErr result (λ e. OfRead reload (λ commit. UnpublishedBy errors test ready commit old new before after e)) → IfErr result (λ e. ((e ≡ Exhausted) ⊎ (e ≡ Memory)) ⊎ HasAnswered errors test e before.left after.left)
-  why_no_end ready reload old new before after (Ok r) h = tt
-  why_no_end ready None old new before after (Err e) h = absurd h
-  why_no_end ready (Some (Noted schema commit lock)) old new before after (Err e) h = absurd h
-  why_no_end ready (Some (FilesRead commit)) old new before after (Err e) h = why_unpublished ready commit old new before after e h
+  pub why_no_end : {R : Type 0} (reload : Option ReloadState) (old new : ReaderState) (before after : WarmersState W) (result : Result R TantivyError)
+      → IfErr result (λ e. OfRead reload (λ commit. UnpublishedBy errors test called_for commit old new before after e)) → IfErr result (λ e. ((e ≡ Exhausted) ⊎ (e ≡ Memory)) ⊎ HasAnswered errors test e before.left after.left)
+  why_no_end reload old new before after (Ok r) h = tt
+  why_no_end None old new before after (Err e) h = absurd h
+  why_no_end (Some (Noted schema commit lock)) old new before after (Err e) h = absurd h
+  why_no_end (Some (FilesRead commit)) old new before after (Err e) h = why_unpublished commit old new before after e h

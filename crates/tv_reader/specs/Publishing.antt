@@ -10,8 +10,8 @@ use Rattle.tv_index.specs.Indexes.{IndexState}
 use Rattle.tv_machine.specs.declared.ReloadPolicy.{ReloadPolicy}
 use Rattle.tv_reader.specs.Readers.{CountCause, ReaderState, opened, published, skipped}
 use Rattle.tv_reader.specs.Reloads.{LoadCause, LoadsLast}
-use Rattle.tv_reader.specs.Searchers.{CommitRead, CommitShown, shown_as}
-use Rattle.tv_reader.specs.Warming.{WarmersState, Warms, new_warmers}
+use Rattle.tv_reader.specs.Searchers.{CommitRead, shown_as}
+use Rattle.tv_reader.specs.Warming.{WarmerCall, WarmersState, Warms, new_warmers}
 
 -- the elements of a list, none where there is no list
 abbrev pub items_of : {X : Type 0} → Option (Vec X Global) → List X
@@ -32,18 +32,18 @@ BuildCause g test warmers old new e =
     × ((e ≡ Memory) ⊎ IsOfOne test warmers e))
 
 module _ {W : Type 0} (errors : W → ℕ) (test : W → TantivyError → Bool)
-    (ready : W → CommitShown → Bool) where
+    (called_for : W → Option (List WarmerCall)) where
   -- a commit is shown under the next number, once each warmer that is left was called, in order
   abbrev pub PublishedBy : CommitRead → (old new : ReaderState) → (before after : WarmersState W) → Type 0
   PublishedBy commit old new before after =
       (new ≡ published old commit)
-      × Warms errors test ready (shown_as old.next commit) before after (Ok tt)
+      × Warms errors test called_for (shown_as old.next commit) before after (Ok tt)
 
   -- the commit of a reload is shown so, and the reload ends
   abbrev pub ReloadedBy : CommitRead → (old new : ReaderState) → (before after : WarmersState W) → Type 0
   ReloadedBy commit old new before after =
       (new ≡ record (published old commit) { reload = None })
-      × Warms errors test ready (shown_as old.next commit) before after (Ok tt)
+      × Warms errors test called_for (shown_as old.next commit) before after (Ok tt)
 
   -- Why a commit isn't shown: no number is left, or memory was wanted, and nothing changed; or the first
   -- warmer that answered an error did, or memory was wanted for the record, and a number was counted.
@@ -51,10 +51,10 @@ module _ {W : Type 0} (errors : W → ℕ) (test : W → TantivyError → Bool)
       → TantivyError → Type 0
   UnpublishedBy commit old new before after e =
       ((new ≡ old) × (after ≡ before) × CountCause (old.next ≡ 18446744073709551615) e)
-      ⊎ ((new ≡ skipped old) × Warms errors test ready (shown_as old.next commit) before after (Err e))
+      ⊎ ((new ≡ skipped old) × Warms errors test called_for (shown_as old.next commit) before after (Err e))
 
   -- a new reader shows this commit under the number 0, once each of these warmers was called, in order
   abbrev pub BuiltBy : ReloadPolicy → (warmers : List W) → CommitRead → ReaderState → WarmersState W → Type 0
   BuiltBy policy warmers commit reader after =
       (reader ≡ opened policy commit)
-      × Warms errors test ready (shown_as 0 commit) (new_warmers warmers) after (Ok tt)
+      × Warms errors test called_for (shown_as 0 commit) (new_warmers warmers) after (Ok tt)

@@ -1,5 +1,6 @@
 -- A reader of an index: what it shows, what it counts, and how it goes on to a later commit.
-use Rattle.std.specs.Prelude.{◌≡◌, ◌⊎◌, ◌+◌, ℕ, List, [], map, Option, Some, None, find}
+use Rattle.std.specs.Prelude.{◌≡◌, ◌⊎◌, ◌+◌, ℕ, Bool, eqb, List, [], map, Option, Some, None, find}
+use Rattle.std.specs.List.{list_any}
 use Rattle.std.specs.Arc.{arc_value}
 use Rattle.std.specs.Option.{IsSomeAnd}
 use Rattle.tv_base.specs.Entries.{InventoryState, IsFull, is_numbered, released, tracked}
@@ -76,6 +77,10 @@ published s commit = showing (counted s (shown_as s.next commit))
 -- the generations that are live: those that a searcher shows which is out, or the reader itself
 abbrev pub live_generations : ReaderState → List Generation
 live_generations s = map (λ e. e.value.generation) s.searchers.entries
+
+-- whether what a reader shows is live
+abbrev pub shows_live : ReaderState → Bool
+shows_live s = list_any (λ g. eqb g.id s.shown.shown.generation.id) (live_generations s)
 
 -- of the commit that a reload has noted, of its schema and of the token of the meta lock, this is true
 abbrev pub OfNoted : Option ReloadState → (List ℕ → Commit → List ℕ → Type 0) → Type 0

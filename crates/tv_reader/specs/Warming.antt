@@ -1,25 +1,36 @@
 -- How warmers are called.
-use Rattle.std.specs.Prelude.{◌≡◌, ◌⊎◌, ◌++◌, ℕ, zero, suc, Bool, false, true, not, eqb, IsTrue, List, [], ◌∷◌, Option, Some, None, is_some, Result, Ok, Err, map, slice_index_or, slice_set}
+use Rattle.std.specs.Prelude.{◌≡◌, ◌⊎◌, ◌++◌, ℕ, zero, suc, Bool, false, true, not, eqb, IsTrue, List, [], ◌∷◌, Option, Some, None, is_some, option_map, Result, Ok, Err, map, slice_index_or, slice_set}
 use Rattle.std.specs.List.{AllZip, list_any}
 use Rattle.tv_base.specs.declared.error.TantivyError.{TantivyError}
 use Rattle.tv_base.specs.declared.error.TantivyError.TheVariants.{Memory}
 use Rattle.tv_formats.specs.Files.{Rose}
 use Rattle.tv_reader.specs.Searchers.{CommitShown, Generation}
 
-module _ {W E : Type 0} (errors : W → ℕ) (test : W → E → Bool) where
-  -- a warmer, where it is left, was called and answered no error, and this is true of it since
-  abbrev pub Called : (W → Bool) → Option W → Option W → Type 0
-  Called done None b = b ≡ None
-  Called done (Some a) None = ⊥
-  Called done (Some a) (Some b) =
-      IsTrue (done b) × (errors b ≡ errors a) × ((e : E) → test b e ≡ test a e)
+-- a call of a warmer: it was to warm what a searcher shows, or it was told these generations as the live ones
+pub data WarmerCall : Type 0 where
+  Warmed : CommitShown → WarmerCall
+  WasTold : List Generation → WarmerCall
 
-  -- a warmer answered this error: the count of its errors rose, and the error is one of its own
-  abbrev pub Stopped : E → Option W → Option W → Type 0
-  Stopped e None b = ⊥
-  Stopped e (Some a) None = ⊥
-  Stopped e (Some a) (Some b) =
-      Rose (errors a) (errors b) × IsTrue (test b e) × ((f : E) → test b f ≡ test a f)
+-- the calls of a warmer that keeps them, and this one behind them
+abbrev pub one_more_call : WarmerCall → Option (List WarmerCall) → Option (List WarmerCall)
+one_more_call call calls = option_map (λ cs. cs ++ call ∷ []) calls
+
+module _ {W E : Type 0} (errors : W → ℕ) (test : W → E → Bool) (called_for : W → Option (List WarmerCall)) where
+  -- a warmer, where it is left, was called once, by this call, and answered no error
+  abbrev pub Called : WarmerCall → Option W → Option W → Type 0
+  Called call None b = b ≡ None
+  Called call (Some a) None = ⊥
+  Called call (Some a) (Some b) =
+      (called_for b ≡ one_more_call call (called_for a)) × (errors b ≡ errors a) × ((e : E) → test b e ≡ test a e)
+
+  -- a warmer was called once, by this call, and answered this error: the count of its errors rose, and the
+  -- error is one of its own
+  abbrev pub Stopped : WarmerCall → E → Option W → Option W → Type 0
+  Stopped call e None b = ⊥
+  Stopped call e (Some a) None = ⊥
+  Stopped call e (Some a) (Some b) =
+      (called_for b ≡ one_more_call call (called_for a)) × Rose (errors a) (errors b) × IsTrue (test b e)
+      × ((f : E) → test b f ≡ test a f)
 
 -- Calls in order, up to the first error: what each was before and after, and what came of it. Those behind the
 -- error weren't called.
@@ -80,22 +91,22 @@ new_warmers warmers = record { warmed = []; left = map Some warmers }
 abbrev pub without_warmer : {W : Type 0} → ℕ → WarmersState W → WarmersState W
 without_warmer number s = record s { left = slice_set s.left number None }
 
-module _ {W : Type 0} (errors : W → ℕ) (test : W → TantivyError → Bool) where
-  -- What a searcher shows was warmed by each warmer that is left, in order, up to the first error, and its
-  -- generation was recorded; or nothing was done, since no warmer is left, or for want of memory.
-  abbrev pub Warms : (ready : W → CommitShown → Bool) → CommitShown → (old new : WarmersState W)
-      → Result (Unit {0}) TantivyError → Type 0
-  Warms ready shown old new r =
+module _ {W : Type 0} (errors : W → ℕ) (test : W → TantivyError → Bool)
+    (called_for : W → Option (List WarmerCall)) where
+  -- What a searcher shows was warmed by each warmer that is left, once each, in order, up to the first error,
+  -- and its generation was recorded; or nothing was done, since no warmer is left, or for want of memory.
+  abbrev pub Warms : CommitShown → (old new : WarmersState W) → Result (Unit {0}) TantivyError → Type 0
+  Warms shown old new r =
       ((new ≡ old) × (((list_any is_some old.left ≡ false) × (r ≡ Ok tt)) ⊎ (r ≡ Err Memory)))
       ⊎ ((list_any is_some old.left ≡ true) × (new.warmed ≡ old.warmed ++ shown.generation.id ∷ [])
-      × InOrder (Called errors test (λ w. ready w shown)) (Stopped errors test) old.left new.left r)
+      × InOrder (Called errors test called_for (Warmed shown)) (Stopped errors test called_for (Warmed shown))
+      old.left new.left r)
 
   -- Whether a generation that was warmed isn't live any more. If so, each warmer that is left was told the
-  -- live ones, in order, and these are taken as warmed; else nothing was done.
-  abbrev pub Collects : (told : W → List Generation → Bool) → List Generation
-      → (old new : WarmersState W) → Bool → Type 0
-  Collects told live old new true =
+  -- live ones, once, and these are taken as warmed; else nothing was done.
+  abbrev pub Collects : List Generation → (old new : WarmersState W) → Bool → Type 0
+  Collects live old new true =
       (has_ended old.warmed (map (λ g. g.id) live) ≡ true) × (new.warmed ≡ map (λ g. g.id) live)
-      × AllZip (Called errors test (λ w. told w live)) old.left new.left
-  Collects told live old new false =
+      × AllZip (Called errors test called_for (WasTold live)) old.left new.left
+  Collects live old new false =
       (has_ended old.warmed (map (λ g. g.id) live) ≡ false) × (new ≡ old)

@@ -1,5 +1,5 @@
 //! A reader of an index: the searcher that it shows, and how it goes on to a later commit.
-ghost use Rattle.std.specs.Prelude.{◌≡◌, ◌<◌, ◌⊎◌, ℕ, List, IfErr, IfOk, None, OnErr, OnOk, Some, get_or};
+ghost use Rattle.std.specs.Prelude.{◌≡◌, ◌<◌, ◌⊎◌, ℕ, List, IfErr, IfOk, None, OnErr, OnOk, Some, get_or, true};
 ghost use Rattle.tv_base.specs.Entries.{one_more, is_numbered, released};
 ghost use Rattle.tv_base.specs.Places.{change_at};
 ghost use Rattle.tv_device.specs.Calls.{Frees};
@@ -10,7 +10,7 @@ ghost use Rattle.tv_formats.specs.Segments.{all_required};
 ghost use Rattle.tv_index.specs.Indexes.{KeepsIndex};
 ghost use Rattle.tv_managed.specs.Collecting.{meta_lock_name};
 ghost use Rattle.tv_reader.specs.Bodies.{UnreadCause};
-ghost use Rattle.tv_reader.specs.Readers.{Abandons, AreMost, CountCause, FilesRead, IsLocked, IsReadOut, Noted, OfNoted, OfRead, live_generations};
+ghost use Rattle.tv_reader.specs.Readers.{Abandons, AreMost, CountCause, FilesRead, IsLocked, IsReadOut, Noted, OfNoted, OfRead, live_generations, shows_live};
 ghost use Rattle.tv_reader.specs.ReaderStates.{PublishCause, Publishes, PublishesReload, seen, warming_of};
 ghost use Rattle.tv_reader.specs.Reloads.{AreBodies, IsOfCommit, LoadCause, LoadsLast, LocksMeta, NoteCause, NotesLast, UnderFaults};
 ghost use Rattle.tv_reader.specs.Searchers.{CommitRead};
@@ -69,7 +69,8 @@ impl IndexReader {
     }
 
     /// Gives a searcher of this reader back. One of another reader counts as one of this reader's whose
-    /// ticket has the same number, where there is one, and else nothing changes. Takes no memory.
+    /// ticket has the same number, where there is one, and else nothing changes. What is shown stays
+    /// live as long as only its own searchers are given back. Takes no memory.
     pub fn release(&mut self, searcher: Searcher)
         ensures released { seen self.new ≡ record (seen self.old) {
           searchers = record (seen self.old).searchers {
@@ -83,9 +84,9 @@ impl IndexReader {
 
     /// Calls the warmers exactly where a generation that was warmed isn't live any more, and tells
     /// whether it did. Then the live ones are taken as warmed. Live are those of which a searcher is
-    /// out, and the one that is shown.
+    /// out, and the one that is shown, as long as only its own searchers are given back.
     pub fn gc_maybe(&mut self) -> Result<bool, Memory>
-        ensures collects { IfOk result (Collects (λ w. errors w) (λ w. test w) (λ w. knows w)
+        ensures collects { IfOk result (Collects (λ w. errors w) (λ w. test w) (λ w. called_for w)
             (live_generations (seen self.old)) (warmers_of (warming_of self.old))
             (warmers_of (warming_of self.new))) }
         ensures err { OnErr result (self.new ≡ self.old) }
@@ -111,23 +112,25 @@ impl IndexReader {
     /// Shows the last commit of the index, once each warmer was called. The meta lock is held while the
     /// commit's files are read, and free again then. After an error what was shown is shown.
     ///
-    /// `LockBusy` in `LockFailure` comes exactly where the meta lock is held, `OpenReadError` for a file
-    /// of the commit that isn't there or not good, `Exhausted` exactly where no number is left, and a
-    /// warmer's error only where the count of one of the reader's warmers rose: then a number was
-    /// counted. The other errors are those of `Index::load_metas`.
+    /// `LockBusy` in `LockFailure` comes exactly where the meta lock is held, if the directory tells its
+    /// locks, and else only where the count of its faults rose; `OpenReadError` for a file of the commit
+    /// that isn't there or not good; `Exhausted` of its own exactly where no number is left; and a
+    /// warmer's error, which may be `Exhausted` too, only where the count of one of the reader's warmers
+    /// rose: then a number was counted. The other errors are those of `Index::load_metas`.
     pub fn reload<D: Directory>(&mut self, index: &mut Index<D>) -> Result<(), TantivyError>
         requires idle { (seen self.old).reload ≡ None }
         ensures ok { OnOk result ((commit : CommitRead)
             × LoadsLast D.Directory index.old index.new commit
-            × Publishes (λ w. errors w) (λ w. test w) (λ w. ready w) commit self.old self.new) }
+            × Publishes (λ w. errors w) (λ w. test w) (λ w. called_for w) commit self.old self.new) }
         ensures rises { OnOk result ((seen self.old).shown.shown.generation.id
             < (seen self.new).shown.shown.generation.id) }
+        ensures live { OnOk result (shows_live (seen self.new) ≡ true) }
         ensures err { OnErr result (((seen self.new).shown ≡ (seen self.old).shown)
             × ((seen self.new).reload ≡ None)) }
         ensures cause { IfErr result (λ e.
             ((self.new ≡ self.old) × LoadCause D.Directory index.old index.new e)
             ⊎ ((commit : CommitRead) × LoadsLast D.Directory index.old index.new commit
-            × PublishCause (λ w. errors w) (λ w. test w) (λ w. ready w) commit
+            × PublishCause (λ w. errors w) (λ w. test w) (λ w. called_for w) commit
             self.old self.new e)) }
         ensures frame { KeepsIndex (OnlyReads D.told) D.view index.old index.new }
         ensures images { D.tells_images
@@ -143,7 +146,7 @@ impl IndexReader {
     /// answers its number. After an error nothing changed, and the lock isn't held by this call.
     ///
     /// Errors are those of `Index::load_metas`, and `LockBusy` in `LockFailure` exactly where the meta
-    /// lock is held.
+    /// lock is held, if the directory tells its locks, and else only where the count of its faults rose.
     pub fn reload_lock<D: Directory>(
         &mut self,
         index: &mut Index<D>,
@@ -201,19 +204,20 @@ impl IndexReader {
     /// its number, which is above that of what was shown. The reload ends. After an error the reload
     /// stands, and what was shown is shown; after a warmer's error the number is counted.
     ///
-    /// `Exhausted` comes exactly where no number is left, and a warmer's error only where the count of
-    /// one of the reader's warmers rose.
+    /// `Exhausted` of its own comes exactly where no number is left, and a warmer's error, which may be
+    /// `Exhausted` too, only where the count of one of the reader's warmers rose.
     pub fn reload_publish(&mut self) -> Result<u64, TantivyError>
         requires read { IsReadOut (seen self.old).reload }
         ensures id { IfOk result (λ id. id ≡ (seen self.old).next) }
         ensures rises { IfOk result (λ id. (seen self.old).shown.shown.generation.id < id) }
         ensures ok { OnOk result (OfRead (seen self.old).reload (λ commit.
-            PublishesReload (λ w. errors w) (λ w. test w) (λ w. ready w) commit
+            PublishesReload (λ w. errors w) (λ w. test w) (λ w. called_for w) commit
             self.old self.new)) }
+        ensures live { OnOk result (shows_live (seen self.new) ≡ true) }
         ensures err { OnErr result (((seen self.new).shown ≡ (seen self.old).shown)
             × ((seen self.new).reload ≡ (seen self.old).reload)) }
         ensures cause { IfErr result (λ e. OfRead (seen self.old).reload (λ commit.
-            PublishCause (λ w. errors w) (λ w. test w) (λ w. ready w) commit
+            PublishCause (λ w. errors w) (λ w. test w) (λ w. called_for w) commit
             self.old self.new e)) }
     {
         publish_read(&mut self.published, &mut self.warming.warmers)

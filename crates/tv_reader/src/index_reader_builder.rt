@@ -76,8 +76,8 @@ impl IndexReaderBuilder {
     /// called. The meta lock is held while the commit's files are read, and free again then. After an
     /// error the warmers are dropped.
     ///
-    /// Errors are those of `IndexReader::reload` but `Exhausted`. A warmer's error is one of those that
-    /// one of the warmers may answer.
+    /// Errors are those of `IndexReader::reload`, but no `Exhausted` of its own. A warmer's error is one
+    /// of those that one of the warmers may answer, which may be `Exhausted` too.
     pub fn try_into<D: Directory>(
         self,
         alloc: Global,
@@ -85,7 +85,7 @@ impl IndexReaderBuilder {
     ) -> Result<IndexReader, TantivyError>
         ensures built { IfOk result (λ reader. (commit : CommitRead)
             × LoadsLast D.Directory index.old index.new commit
-            × Builds (λ w. errors w) (λ w. test w) (λ w. ready w) (builder_of self) commit
+            × Builds (λ w. errors w) (λ w. test w) (λ w. called_for w) (builder_of self) commit
             reader) }
         ensures cause { IfErr result (BuildCause D.Directory (λ w. test w)
             (builder_of self).warmers index.old index.new) }

@@ -1,10 +1,11 @@
 //! Laws of readers: what a user relies on, of the calls that each makes.
-ghost use Rattle.std.specs.Prelude.{◌≡◌, ◌<◌, ◌+◌, ◌⊎◌, ℕ, List, None, Result, Err, IfErr, IfOk, IfSome, Ok, OnErr, OnOk, Some, length, map};
-ghost use Rattle.std.specs.List.{AllByRecursion, enumerate_from};
+ghost use Rattle.std.specs.Prelude.{◌≡◌, ◌<◌, ◌+◌, ◌⊎◌, ℕ, List, None, Result, Err, IfErr, IfOk, IfSome, Ok, OnErr, OnOk, Some, eqb, false, is_some, length, map, not, true};
+ghost use Rattle.std.specs.List.{AllByRecursion, AllZip, enumerate_from, list_any};
 ghost use Rattle.tv_base.specs.Maps.{IsOf, first_error};
 ghost use Rattle.tv_formats.specs.Commits.{Commit};
+ghost use Rattle.tv_managed.specs.Collecting.{meta_lock_name};
 ghost use Rattle.tv_reader.specs.Bodies.{IsRead};
-ghost use Rattle.tv_reader.specs.Readers.{IsLocked, IsReadOut, OfNoted};
+ghost use Rattle.tv_reader.specs.Readers.{IsLocked, IsReadOut, OfNoted, live_generations};
 ghost use Rattle.tv_reader.specs.ReaderStates.{seen, warming_of};
 ghost use Rattle.tv_reader.specs.Reloads.{LoadCause, NotesLast};
 ghost use Rattle.tv_reader.specs.Searchers.{snapshot_of};
@@ -13,17 +14,18 @@ ghost use Rattle.tv_reader.specs.Segments.{SegmentShown};
 ghost use Rattle.tv_reader.specs.Warming.{EndsAtError, HasAnswered};
 ghost use Rattle.tv_reader.specs.WarmingStates.{warmers_of};
 
+use crate::generation::SearcherGeneration;
 use crate::index_reader::IndexReader;
 use crate::search::{Collector, Query};
 use crate::searcher::Searcher;
 use crate::warming_state::WarmingState;
 use std::thread::Threads;
-use tv_base::{Executor, Opstamp, TantivyError};
+use tv_base::{Executor, Memory, Opstamp, TantivyError};
 use tv_device::Directory;
 use tv_index::Index;
 
-/// No segment is dropped: what is merged is as many children as there are segments, by any number of
-/// threads.
+/// No segment is dropped, and none is taken twice: what is merged is what each of them gives by a weight
+/// of the query, in their order, by any number of threads.
 pub fn a_search_drops_no_segment<R: Threads + Sync, Q: Query, C: Collector>(
     searcher: &Searcher,
     rt: &R,
@@ -31,15 +33,18 @@ pub fn a_search_drops_no_segment<R: Threads + Sync, Q: Query, C: Collector>(
     collector: &C,
     executor: &Executor,
 ) -> Result<C::Fruit, TantivyError>
-    ensures { IfOk result (λ fruit. (children : List C.Child)
+    ensures { IfOk result (λ fruit. (w : Q.W) × (children : List C.Child)
+        × Q.weighed query.now (Ok w)
         × (length children ≡ length searcher.now.shown.segments)
+        × AllZip (λ at child. GivesChild (Q.W.matched w) (C.collected collector.now) at (Ok child))
+        (enumerate_from 0 searcher.now.shown.segments) children
         × C.merged collector.now children (Ok fruit)) }
 {
     searcher.search(rt, query, collector, executor)
 }
 
-/// No later error is answered: where what a segment gives is determined, the error is the one of the
-/// first segment that gives one, by any number of threads.
+/// No later error is answered: where what a segment gives is determined by each weight of the query, the
+/// error is the one of the first segment that gives one, by any number of threads.
 pub fn a_search_answers_the_first_error<R: Threads + Sync, Q: Query, C: Collector>(
     searcher: &Searcher,
     rt: &R,
@@ -48,7 +53,8 @@ pub fn a_search_answers_the_first_error<R: Threads + Sync, Q: Query, C: Collecto
     executor: &Executor,
 ) -> Result<C::Fruit, TantivyError>
     ensures { (g : ℕ × SegmentShown → Result C.Child TantivyError)
-        → ((w : Q.W) → IsOf (GivesChild (Q.W.matched w) (C.collected collector.now)) g)
+        → ((w : Q.W) → Q.weighed query.now (Ok w)
+        → IsOf (GivesChild (Q.W.matched w) (C.collected collector.now)) g)
         → IfErr result (λ e. IsRefused TantivyError.Memory (Q.weighed query.now)
         (C.checked collector.now searcher.now.shown.schema) (C.merged collector.now) e
         ⊎ (first_error (map g (enumerate_from 0 searcher.now.shown.segments)) ≡ Some e)) }
@@ -167,4 +173,71 @@ pub fn a_reload_in_steps_invents_no_warmers_error(
         (warmers_of (warming_of reader.new)).left) }
 {
     reader.reload_publish()
+}
+
+/// A collection comes once a generation that was warmed isn't live any more, where a warmer is left.
+pub fn a_collection_comes_once_a_warmed_one_ended(
+    state: &mut WarmingState,
+    searcher: &Searcher,
+) -> Result<bool, TantivyError>
+    ensures { IfOk result (λ called.
+        list_any is_some (warmers_of state.old).left ≡ true → called ≡ true) }
+{
+    state.warm_new_searcher_generation(searcher)?;
+    Ok(state.gc_maybe(&[])?)
+}
+
+/// A collection comes once only: where the live ones are the same, there is no second one.
+pub fn a_collection_comes_once_only(
+    state: &mut WarmingState,
+    live: &[SearcherGeneration],
+) -> Result<bool, Memory>
+    ensures { IfOk result (λ called. called ≡ false) }
+{
+    state.gc_maybe(live)?;
+    state.gc_maybe(live)
+}
+
+/// A reload that is given up frees its lock.
+pub fn a_reload_given_up_frees_its_lock<D: Directory>(
+    reader: &mut IndexReader,
+    index: &mut Index<D>,
+) -> Result<(), TantivyError>
+    requires idle { (seen reader.old).reload ≡ None }
+    ensures { D.told.locks
+        → OnOk result ((D.view index.new.directory.0).locks meta_lock_name ≡ false) }
+{
+    reader.reload_lock(index)?;
+    reader.reload_abandon(index);
+    Ok(())
+}
+
+/// A reload that has begun holds the meta lock until its files are read, and no longer: where they are, the
+/// answer is true.
+pub fn a_reload_holds_the_lock_until_its_files_are_read<D: Directory>(
+    reader: &mut IndexReader,
+    index: &mut Index<D>,
+) -> Result<bool, TantivyError>
+    requires idle { (seen reader.old).reload ≡ None }
+    ensures { D.told.locks → IfOk result (λ read.
+        (D.view index.new.directory.0).locks meta_lock_name ≡ not read) }
+{
+    reader.reload_lock(index)?;
+    match reader.reload_open(index) {
+        Ok(()) => Ok(true),
+        Err(_) => Ok(false),
+    }
+}
+
+/// What a reload shows is live: a collection behind it doesn't take it for one that ended.
+pub fn what_a_reload_shows_is_live<D: Directory>(
+    reader: &mut IndexReader,
+    index: &mut Index<D>,
+) -> Result<(), TantivyError>
+    requires idle { (seen reader.old).reload ≡ None }
+    ensures { OnOk result
+        (list_any (λ g. eqb g.id (seen reader.new).shown.shown.generation.id)
+        (live_generations (seen reader.new)) ≡ true) }
+{
+    reader.reload(index)
 }

@@ -59,7 +59,8 @@ impl Model for Published {
       reload = option_map reload_of p.reload;
     } };
 
-    ghost invariant = { λ p. p.shown.shown.generation.id < p.next };
+    ghost invariant = { λ p. (p.shown.shown.generation.id < p.next)
+        × (p.shown.ticket < p.searchers.next) };
 }
 
 impl Published {
@@ -148,7 +149,8 @@ impl Published {
         ensures ok { OnOk result
             (self.new ≡ counted self.old (shown_as self.old.next (arc_value commit))) }
         ensures fresh { OnOk result
-            (find (is_numbered self.old.searchers.next) self.old.searchers.entries ≡ None) }
+            ((find (is_numbered self.old.searchers.next) self.old.searchers.entries ≡ None)
+            × (self.old.shown.ticket < self.old.searchers.next)) }
         ensures err { OnErr result (self.new ≡ self.old) }
         ensures cause { IfErr result (CountCause (self.old.next ≡ 18446744073709551615)) }
     {
@@ -166,6 +168,7 @@ impl Published {
     // back. Takes no memory.
     pub(crate) fn show(&mut self, searcher: Searcher)
         requires below { searcher.shown.generation.id < self.old.next }
+        requires counted { searcher.ticket < self.old.searchers.next }
         ensures { self.new ≡ showing self.old searcher }
     {
         let before = mem::replace(&mut self.shown, searcher);

@@ -1,11 +1,11 @@
 //! A commit is published, once the warmers were called.
-ghost use Rattle.std.specs.Prelude.{◌≡◌, ◌<◌, ◌⊎◌, IfErr, IfOk, OnErr, OnOk};
+ghost use Rattle.std.specs.Prelude.{◌≡◌, ◌<◌, ◌⊎◌, IfErr, IfOk, OnErr, OnOk, true};
 ghost use Rattle.std.specs.Arc.{arc_value};
 ghost use Rattle.tv_device.specs.Images.{KeepsDisk};
 ghost use Rattle.tv_device.specs.View.{OnlyReads};
 ghost use Rattle.tv_index.specs.Indexes.{KeepsIndex};
 ghost use Rattle.tv_reader.specs.Publishing.{BuildCause, BuiltBy, IsOfOne, PublishedBy, ReloadedBy, UnpublishedBy, items_of};
-ghost use Rattle.tv_reader.specs.Readers.{IsReadOut, OfRead, live_generations};
+ghost use Rattle.tv_reader.specs.Readers.{IsReadOut, OfRead, live_generations, shows_live};
 ghost use Rattle.tv_reader.specs.Reloads.{LoadCause, LoadsLast};
 ghost use Rattle.tv_reader.specs.Searchers.{CommitRead};
 ghost use Rattle.tv_reader.specs.Warming.{Collects};
@@ -30,9 +30,10 @@ pub(crate) fn publish<W: Warmer>(
 ) -> Result<u64, TantivyError>
     ensures id { IfOk result (λ id. id ≡ published.old.next) }
     ensures rises { IfOk result (λ id. published.old.shown.shown.generation.id < id) }
-    ensures ok { OnOk result (PublishedBy W.errors W.test W.ready (arc_value commit)
+    ensures ok { OnOk result (PublishedBy W.errors W.test W.called_for (arc_value commit)
         published.old published.new warmers.old warmers.new) }
-    ensures cause { IfErr result (UnpublishedBy W.errors W.test W.ready (arc_value commit)
+    ensures live { OnOk result (shows_live published.new ≡ true) }
+    ensures cause { IfErr result (UnpublishedBy W.errors W.test W.called_for (arc_value commit)
         published.old published.new warmers.old warmers.new) }
 {
     let id = published.next_generation();
@@ -57,14 +58,15 @@ pub(crate) fn publish_last<D: Directory, W: Warmer>(
 ) -> Result<(), TantivyError>
     ensures ok { OnOk result ((commit : CommitRead)
         × LoadsLast D.Directory index.old index.new commit
-        × PublishedBy W.errors W.test W.ready commit published.old published.new
+        × PublishedBy W.errors W.test W.called_for commit published.old published.new
         warmers.old warmers.new) }
     ensures rises { OnOk result
         (published.old.shown.shown.generation.id < published.new.shown.shown.generation.id) }
+    ensures live { OnOk result (shows_live published.new ≡ true) }
     ensures cause { IfErr result (λ e. ((published.new ≡ published.old)
         × (warmers.new ≡ warmers.old) × LoadCause D.Directory index.old index.new e)
         ⊎ ((commit : CommitRead) × LoadsLast D.Directory index.old index.new commit
-        × UnpublishedBy W.errors W.test W.ready commit published.old published.new
+        × UnpublishedBy W.errors W.test W.called_for commit published.old published.new
         warmers.old warmers.new e)) }
     ensures frame { KeepsIndex (OnlyReads D.told) D.view index.old index.new }
     ensures images { D.tells_images
@@ -89,9 +91,10 @@ pub(crate) fn publish_read<W: Warmer>(
     ensures id { IfOk result (λ id. id ≡ published.old.next) }
     ensures rises { IfOk result (λ id. published.old.shown.shown.generation.id < id) }
     ensures ok { OnOk result (OfRead published.old.reload (λ commit. ReloadedBy W.errors W.test
-        W.ready commit published.old published.new warmers.old warmers.new)) }
+        W.called_for commit published.old published.new warmers.old warmers.new)) }
+    ensures live { OnOk result (shows_live published.new ≡ true) }
     ensures cause { IfErr result (λ e. OfRead published.old.reload (λ commit. UnpublishedBy W.errors
-        W.test W.ready commit published.old published.new warmers.old warmers.new e)) }
+        W.test W.called_for commit published.old published.new warmers.old warmers.new e)) }
 {
     let commit = published.read()?;
     match publish(published, warmers, commit) {
@@ -108,7 +111,7 @@ pub(crate) fn collect<W: Warmer>(
     published: &Published,
     warmers: &mut Warmers<W>,
 ) -> Result<bool, Memory>
-    ensures ok { IfOk result (Collects W.errors W.test W.knows
+    ensures ok { IfOk result (Collects W.errors W.test W.called_for
         (live_generations published.now) warmers.old warmers.new) }
     ensures err { OnErr result (warmers.new ≡ warmers.old) }
 {
@@ -133,7 +136,7 @@ fn open_warmed<W: Warmer>(
     warmers: Vec<W>,
     commit: Arc<ReadCommit, Global>,
 ) -> Result<(Published, Warmers<W>), TantivyError>
-    ensures ok { IfOk result (λ built. BuiltBy W.errors W.test W.ready policy warmers.items
+    ensures ok { IfOk result (λ built. BuiltBy W.errors W.test W.called_for policy warmers.items
         (arc_value commit) built.0 built.1) }
     ensures cause { IfErr result (λ e.
         (e ≡ TantivyError.Memory) ⊎ IsOfOne W.test warmers.items e) }
@@ -155,7 +158,7 @@ pub(crate) fn build<D: Directory, W: Warmer>(
 ) -> Result<(Published, Warmers<W>), TantivyError>
     ensures ok { IfOk result (λ built. (commit : CommitRead)
         × LoadsLast D.Directory index.old index.new commit
-        × BuiltBy W.errors W.test W.ready policy (items_of warmers) commit built.0 built.1) }
+        × BuiltBy W.errors W.test W.called_for policy (items_of warmers) commit built.0 built.1) }
     ensures cause { IfErr result
         (BuildCause D.Directory W.test (items_of warmers) index.old index.new) }
     ensures frame { KeepsIndex (OnlyReads D.told) D.view index.old index.new }

@@ -38,8 +38,9 @@ impl<D: Directory> ReaderOf for Index<D> {
     /// last commit of the index under the number 0. The meta lock is held while the commit's files are
     /// read, and free again then.
     ///
-    /// `LockBusy` in `LockFailure` comes exactly where the meta lock is held, `OpenReadError` for a file
-    /// of the commit that isn't there or not good. The other errors are those of `Index::load_metas`.
+    /// `LockBusy` in `LockFailure` comes exactly where the meta lock is held, if the directory tells its
+    /// locks, and else only where the count of its faults rose; `OpenReadError` for a file of the commit
+    /// that isn't there or not good. The other errors are those of `Index::load_metas`.
     fn reader(&mut self, alloc: Global) -> Result<IndexReader, TantivyError>
         ensures built { IfOk result (λ reader. (commit : CommitRead)
             × LoadsLast D.Directory self.old self.new commit × BuildsPlain commit reader) }

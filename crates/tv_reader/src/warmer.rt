@@ -16,10 +16,10 @@ pub fn gc_interval() -> Duration
 
 /// Makes something ready for each new searcher, before it is shown.
 pub trait Warmer: Drop {
-    ghost use Rattle.std.specs.Prelude.{◌≡◌, ℕ, Bool, List, IfErr, IsTrue, OnOk};
+    ghost use Rattle.std.specs.Prelude.{◌≡◌, ℕ, Bool, List, Option, IfErr, IsTrue, OnOk};
     ghost use Rattle.tv_base.specs.declared.error.TantivyError.{TantivyError};
     ghost use Rattle.tv_formats.specs.Files.{Rose};
-    ghost use Rattle.tv_reader.specs.Searchers.{CommitShown, Generation};
+    ghost use Rattle.tv_reader.specs.Warming.{Warmed, WarmerCall, WasTold, one_more_call};
 
     /// How often `warm` answered an error, as far as 64 bits count.
     ghost errors: { Self → ℕ };
@@ -27,16 +27,12 @@ pub trait Warmer: Drop {
     /// Which errors it answers.
     ghost test: { Self → TantivyError → Bool };
 
-    /// Whether it made this ready. One that doesn't tell is always ready.
-    ghost ready: { Self → CommitShown → Bool };
-
-    /// Whether it knows that these generations are shown, and no others. One that doesn't tell always
-    /// knows.
-    ghost knows: { Self → List Generation → Bool };
+    /// What it was called for so far, in order, where it keeps that.
+    ghost called_for: { Self → Option (List WarmerCall) };
 
     /// Makes ready what the searcher shows.
     fn warm(&mut self, searcher: &Searcher) -> Result<(), TantivyError>
-        ensures ready { OnOk result (IsTrue (ready self.new searcher.now.shown)) }
+        ensures called { called_for self.new ≡ one_more_call (Warmed searcher.now.shown) (called_for self.old) }
         ensures quiet { OnOk result (errors self.new ≡ errors self.old) }
         ensures cause { IfErr result (λ e. Rose (errors self.old) (errors self.new)
             × IsTrue (test self.new e)) }
@@ -44,7 +40,7 @@ pub trait Warmer: Drop {
 
     /// Drops what no generation needs but these, which are still shown.
     fn garbage_collect(&mut self, live: &[SearcherGeneration])
-        ensures told { IsTrue (knows self.new live.now) }
+        ensures called { called_for self.new ≡ one_more_call (WasTold live.now) (called_for self.old) }
         ensures quiet { errors self.new ≡ errors self.old }
         ensures same { (e : TantivyError) → test self.new e ≡ test self.old e };
 }
@@ -54,9 +50,7 @@ impl Warmer for Box<dyn Warmer + Send + Drop> {
 
     ghost test = { λ b. (Warmer-box b).test b.value };
 
-    ghost ready = { λ b. (Warmer-box b).ready b.value };
-
-    ghost knows = { λ b. (Warmer-box b).knows b.value };
+    ghost called_for = { λ b. (Warmer-box b).called_for b.value };
 
     fn warm(&mut self, searcher: &Searcher) -> Result<(), TantivyError> {
         (**self).warm(searcher)

@@ -1,7 +1,7 @@
 //! The warmers of a reader, each at its place.
 ghost use Rattle.std.specs.Prelude.{◌≡◌, ◌<◌, IfErr, IfOk, None, OnErr, OnOk, Some, get_or, is_some, map, vec_len};
 ghost use Rattle.std.specs.List.{AllZip, list_any};
-ghost use Rattle.tv_reader.specs.Warming.{Called, Changes, Collects, InOrder, Stopped, Warms, has_ended, new_warmers, without_warmer};
+ghost use Rattle.tv_reader.specs.Warming.{Called, Changes, Collects, InOrder, Stopped, Warmed, Warms, WasTold, has_ended, new_warmers, without_warmer};
 
 use crate::generation::SearcherGeneration;
 use crate::searcher::Searcher;
@@ -27,9 +27,10 @@ impl<W> Model for Warmers<W> {
 
 // Warms by one warmer, where it is left.
 fn warm_one<W: Warmer>(slot: &mut Option<W>, searcher: &Searcher) -> Result<(), TantivyError>
-    ensures ok { OnOk result (Called W.errors W.test (λ w. W.ready w searcher.now.shown)
+    ensures ok { OnOk result (Called W.errors W.test W.called_for (Warmed searcher.now.shown)
         slot.old slot.new) }
-    ensures err { IfErr result (λ e. Stopped W.errors W.test e slot.old slot.new) }
+    ensures err { IfErr result (λ e. Stopped W.errors W.test W.called_for (Warmed searcher.now.shown) e
+        slot.old slot.new) }
 {
     let Some(warmer) = slot else {
         return Ok(());
@@ -48,10 +49,11 @@ fn warm_at<W: Warmer>(
 ) -> Result<(), TantivyError>
     requires { i < vec_len slots.old }
     ensures ok { OnOk result (Changes
-        (Called W.errors W.test (λ w. W.ready w searcher.now.shown))
+        (Called W.errors W.test W.called_for (Warmed searcher.now.shown))
         slots.old.items slots.new.items i) }
     ensures err { IfErr result (λ e.
-        Changes (Stopped W.errors W.test e) slots.old.items slots.new.items i) }
+        Changes (Stopped W.errors W.test W.called_for (Warmed searcher.now.shown) e)
+        slots.old.items slots.new.items i) }
 {
     if let Err(error) = warm_one(&mut slots[i], searcher) {
         return Err(error);
@@ -61,8 +63,9 @@ fn warm_at<W: Warmer>(
 
 // Warms by each in order, up to the first error.
 fn warm_all<W: Warmer>(slots: &mut Vec<Option<W>>, searcher: &Searcher) -> Result<(), TantivyError>
-    ensures { InOrder (Called W.errors W.test (λ w. W.ready w searcher.now.shown))
-        (Stopped W.errors W.test) slots.old.items slots.new.items result }
+    ensures { InOrder (Called W.errors W.test W.called_for (Warmed searcher.now.shown))
+        (Stopped W.errors W.test W.called_for (Warmed searcher.now.shown))
+        slots.old.items slots.new.items result }
 {
     for i in 0..slots.len() {
         if let Err(error) = warm_at(slots, i, searcher) {
@@ -74,7 +77,7 @@ fn warm_all<W: Warmer>(slots: &mut Vec<Option<W>>, searcher: &Searcher) -> Resul
 
 // Hands live generations to one warmer, where it is left.
 fn collect_one<W: Warmer>(slot: &mut Option<W>, live: &[SearcherGeneration])
-    ensures { Called W.errors W.test (λ w. W.knows w live.now) slot.old slot.new }
+    ensures { Called W.errors W.test W.called_for (WasTold live.now) slot.old slot.new }
 {
     if let Some(warmer) = slot {
         warmer.garbage_collect(live);
@@ -84,15 +87,15 @@ fn collect_one<W: Warmer>(slot: &mut Option<W>, live: &[SearcherGeneration])
 // Hands live generations to the warmer at a place.
 fn collect_at<W: Warmer>(slots: &mut Vec<Option<W>>, i: usize, live: &[SearcherGeneration])
     requires { i < vec_len slots.old }
-    ensures { Changes (Called W.errors W.test (λ w. W.knows w live.now))
+    ensures { Changes (Called W.errors W.test W.called_for (WasTold live.now))
         slots.old.items slots.new.items i }
 {
     collect_one(&mut slots[i], live);
 }
 
-// Hands live generations to each, in order.
+// Hands live generations to each.
 fn collect_all<W: Warmer>(slots: &mut Vec<Option<W>>, live: &[SearcherGeneration])
-    ensures { AllZip (Called W.errors W.test (λ w. W.knows w live.now))
+    ensures { AllZip (Called W.errors W.test W.called_for (WasTold live.now))
         slots.old.items slots.new.items }
 {
     for i in 0..slots.len() {
@@ -164,7 +167,7 @@ impl<W: Warmer> Warmers<W> {
     // Warms a new searcher by each in order, up to the first error. Its generation is one that was
     // warmed, also after a warmer's error. Without warmers nothing is done.
     pub(crate) fn warm_new(&mut self, searcher: &Searcher) -> Result<(), TantivyError>
-        ensures { Warms W.errors W.test W.ready searcher.now.shown self.old self.new result }
+        ensures { Warms W.errors W.test W.called_for searcher.now.shown self.old self.new result }
     {
         if !has_some(self.slots.as_slice()) {
             return Ok(());
@@ -173,11 +176,11 @@ impl<W: Warmer> Warmers<W> {
         warm_all(&mut self.slots, searcher)
     }
 
-    // Hands the live generations to each, in order, where one that was warmed isn't live any more.
+    // Hands the live generations to each, once, where one that was warmed isn't live any more.
     // Then the live ones are those that were warmed.
     pub(crate) fn collect_ended(&mut self, live: &[SearcherGeneration]) -> Result<bool, Memory>
         ensures ok { IfOk result
-            (Collects W.errors W.test W.knows live.now self.old self.new) }
+            (Collects W.errors W.test W.called_for live.now self.old self.new) }
         ensures err { OnErr result (self.new ≡ self.old) }
     {
         let ids = ids_of(*self.warmed.allocator(), live)?;

@@ -39,7 +39,7 @@ impl WarmingState {
     /// as warmed, also where a warmer answers an error. Without warmers nothing is recorded. Where
     /// memory is wanted for the record, no warmer is called, and nothing is recorded.
     pub fn warm_new_searcher_generation(&mut self, searcher: &Searcher) -> Result<(), TantivyError>
-        ensures warms { Warms (λ w. errors w) (λ w. test w) (λ w. ready w) searcher.now.shown
+        ensures warms { Warms (λ w. errors w) (λ w. test w) (λ w. called_for w) searcher.now.shown
             (warmers_of self.old) (warmers_of self.new) result }
     {
         self.warmers.warm_new(searcher)
@@ -48,7 +48,7 @@ impl WarmingState {
     /// Calls the warmers exactly where a generation that was warmed isn't among the live ones any more,
     /// and tells whether it did. Then the live ones are taken as warmed.
     pub fn gc_maybe(&mut self, live: &[SearcherGeneration]) -> Result<bool, Memory>
-        ensures collects { IfOk result (Collects (λ w. errors w) (λ w. test w) (λ w. knows w)
+        ensures collects { IfOk result (Collects (λ w. errors w) (λ w. test w) (λ w. called_for w)
             live.now (warmers_of self.old) (warmers_of self.new)) }
         ensures err { OnErr result (self.new ≡ self.old) }
     {

@@ -44,9 +44,7 @@ impl Warmer for Counts {
 
     ghost test = { λ _ _. true };
 
-    ghost ready = { λ _ _. true };
-
-    ghost knows = { λ _ _. true };
+    ghost called_for = { λ _. None };
 
     fn warm(&mut self, searcher: &Searcher) -> Result<(), TantivyError> {
         count(&self.calls.warmed);

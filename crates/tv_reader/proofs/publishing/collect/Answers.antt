@@ -8,4 +8,4 @@ pub returns-clause-ok : goal.returns-clause-ok
 returns-clause-ok g c =
     let m = g.W.Warmer in
     let is : c.as_slice.result.now ≡ live_generations c.args.published.now = search rules in
-    subst (λ (l : List Generation). IfOk c.collect_ended.result (Collects m.errors m.test m.knows l c.args.warmers.now c.collect_ended.new.self)) is c.collect_ended.ensures.ok
+    subst (λ (l : List Generation). IfOk c.collect_ended.result (Collects m.errors m.test m.called_for l c.args.warmers.now c.collect_ended.new.self)) is c.collect_ended.ensures.ok
