@@ -1,0 +1,6 @@
+mod Counted
+mod Events
+mod Mixing
+mod Places
+mod Races
+mod Standing

@@ -1,0 +1,3 @@
+mod Prefixes
+mod Rereading
+mod Steps

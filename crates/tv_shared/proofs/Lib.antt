@@ -1,0 +1,6 @@
+mod Beginnings
+mod Failing
+mod Keeping
+mod Promises
+mod Refusals
+mod Runs
