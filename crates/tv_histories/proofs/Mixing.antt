@@ -7,10 +7,26 @@ use Rattle.tv_histories.specs.declared.entry.Entry.{Entry}
 use Rattle.tv_histories.specs.declared.entry.Receipt.{Receipt}
 use Rattle.tv_histories.specs.Receipts.{entry_of}
 use Rattle.tv_histories.specs.Callers.{of_caller}
-use Rattle.tv_histories.specs.Merging.{entries, IsMerging, IsMerged, IsLeast}
+use Rattle.tv_histories.specs.Merging.{entries, IsMerged}
 use Rattle.tv_histories.proofs.Places.{some_is, never, get_snoc, get_set, some_at, below_or_at}
 
 -- ---- merging
+
+-- The callers' receipts, numbered from 1, beside whose each is. What is left of each caller is this.
+pub record IsMerging {X : Type 0} (items : X → List Receipt) (all now : List X) (callers : List ℕ)
+    (receipts : List Receipt) : Type 0 where
+  pub count : length now ≡ length all
+  pub long : length callers ≡ length receipts
+  pub known : (i k : ℕ) → slice_get callers i ≡ Some k → k < length all
+  pub numbered : (i : ℕ) (r : Receipt) → slice_get receipts i ≡ Some r → r.place ≡ i + 1
+  pub each : (k : ℕ) (old left : X) → slice_get all k ≡ Some old → slice_get now k ≡ Some left
+      → of_caller k callers (entries receipts) ++ entries (items left) ≡ entries (items old)
+
+-- the caller of the least place among the first ones, so many, if any of these has an item
+abbrev pub IsLeast : {X : Type 0} → (X → List Receipt) → List X → ℕ → Option (ℕ × ℕ) → Type 0
+IsLeast items lists n least =
+    IfNone least ((j : ℕ) (q : _) → j < n → slice_get lists j ≡ Some q → items q ≡ [])
+    × IfSome least (λ p. (q : _) × (slice_get lists p.0 ≡ Some q) × (0 < length (items q)))
 
 one_of : {A : Type 0} → Bool → A → List A
 one_of true x = x ∷ []

@@ -1,5 +1,5 @@
 -- What a race leaves.
-use Rattle.std.proofs.Common.{◌≡◌, ◌<◌, ◌+◌, ℕ, zero, suc, List, [], ◌∷◌, map, length, Bool, true, false, true≢false, Option, Some, None, Result, Ok, Err, get_or, refl, sym, ap, ap₂, subst, ◌∙◌, arith}
+use Rattle.std.proofs.Common.{◌≡◌, ◌<◌, ◌+◌, ℕ, zero, suc, List, [], ◌∷◌, ◌++◌, map, length, Bool, true, false, true≢false, Option, Some, None, Result, Ok, Err, get_or, refl, sym, ap, ap₂, subst, ◌∙◌, arith}
 use Rattle.std.specs.Prelude.{◌==◌, slice_get, if◌then◌else◌, IfOk, IsOk, option_map}
 use Rattle.std.proofs.lemmas.Option.{slice_get_within, get_or_from_slice_get, slice_get-map}
 use Rattle.tv_base.specs.declared.error.TantivyError.{TantivyError}
@@ -14,6 +14,10 @@ use Rattle.tv_histories.specs.Merging.{entries, IsMerged}
 use Rattle.tv_histories.specs.Races.{Follows, IsMergedFrom, IsOfStore, IsRace, fault_or_memory, first_of}
 use Rattle.tv_histories.proofs.Places.{some_is, never, some_at}
 use Rattle.tv_histories.proofs.Mixing.{length_map}
+
+-- the first of them, and the rest
+abbrev pub AreFirst : {X E : Type 0} → List (Result X E) → List X → List (Result X E) → Type 0
+AreFirst answers all rest = answers ≡ map Ok all ++ rest
 
 count_ok : {L E : Type 0} (answers : List (Result L E)) (lists : List L) → answers ≡ map Ok lists → length lists ≡ length answers
 count_ok answers lists e = sym (ap length e ∙ length_map Ok lists)

@@ -1,5 +1,5 @@
 -- What several callers leave who apply their scripts at once.
-use Rattle.std.specs.Prelude.{◌≡◌, ◌≢◌, ◌<◌, ◌+◌, ℕ, List, [], ◌∷◌, ◌++◌, map, length, true, Result, Ok, Err, Option, Some, None}
+use Rattle.std.specs.Prelude.{◌≡◌, ◌≢◌, ◌<◌, ◌+◌, ℕ, List, [], ◌∷◌, map, length, true, Result, Ok, Err, Option, Some, None}
 use Rattle.std.specs.List.{slice_get}
 use Rattle.tv_base.specs.declared.error.TantivyError.{TantivyError}
 use Rattle.tv_base.specs.declared.error.TantivyError.TheVariants as errors
@@ -14,10 +14,6 @@ use Rattle.tv_histories.specs.declared.shared_error.SharedError.TheVariants as s
 -- each answer is there, and these are the answers
 abbrev pub AreAll : {X E : Type 0} → List (Result X E) → List X → Type 0
 AreAll answers all = answers ≡ map Ok all
-
--- the first of them, and the rest
-abbrev pub AreFirst : {X E : Type 0} → List (Result X E) → List X → List (Result X E) → Type 0
-AreFirst answers all rest = answers ≡ map Ok all ++ rest
 
 -- what the store was refused, where that is the error and it isn't want of memory
 unfoldable pub fault_of : SharedError → Option TantivyError

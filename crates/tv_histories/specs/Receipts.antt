@@ -1,5 +1,5 @@
 -- Receipts, and the entries of a history that they stand for.
-use Rattle.std.specs.Prelude.{◌≡◌, ◌<◌, ◌-◌, ℕ, List, length, Some}
+use Rattle.std.specs.Prelude.{◌≡◌, ◌-◌, ℕ, List, length, Some}
 use Rattle.std.specs.List.{slice_get, slice_index_or}
 use Rattle.tv_base.specs.declared.error.TantivyError.TheVariants as errors
 use Rattle.tv_events.specs.declared.event.Event.{Event}
@@ -23,11 +23,6 @@ Stands history r = slice_get history r.place ≡ Some (entry_of r)
 -- so is each of them
 abbrev pub AllStand : List Entry → List Receipt → Type 0
 AllStand history receipts = (i : ℕ) (r : Receipt) → slice_get receipts i ≡ Some r → Stands history r
-
--- so is each of the first ones, so many
-abbrev pub StandBelow : ℕ → List Entry → List Receipt → Type 0
-StandBelow n history receipts =
-    (i : ℕ) (r : Receipt) → i < n → slice_get receipts i ≡ Some r → Stands history r
 
 -- this is the last entry
 abbrev pub IsLastEntry : List Entry → Entry → Type 0

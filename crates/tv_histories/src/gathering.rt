@@ -10,8 +10,8 @@ use tv_base::TantivyError;
 use tv_events::Event;
 use tv_formats::Memory;
 
-#[tactic(auto, unfolding(crate::specs::Races::fault_of))]
 // What the store was refused, where that is the error.
+#[tactic(auto, unfolding(crate::specs::Races::fault_of))]
 fn fault_of(error: SharedError) -> Option<TantivyError>
     ensures { result ≡ fault_of error }
 {
@@ -42,8 +42,8 @@ fn fault_or_memory(fault: Option<TantivyError>) -> SharedError
     }
 }
 
-#[tactic(auto, using(crate::proofs::Races::first_assoc, crate::proofs::Races::first_none))]
 // The lists of all answers, or the first fault among them.
+#[tactic(auto, using(crate::proofs::Races::first_assoc, crate::proofs::Races::first_none))]
 fn all_or_fault(
     alloc: Global,
     answers: Vec<Result<VecDeque<Receipt>, SharedError>>,

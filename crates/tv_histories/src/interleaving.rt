@@ -26,9 +26,9 @@ pub fn merge_of(
     merge(alloc, lists)
 }
 
-#[tactic(auto, using(crate::proofs::Counted::counted))]
 /// Whether the receipts of these scripts, which all stand in the history, are all of its entries but the
 /// first, which makes a reader. Then it is an interleaving of the scripts. Takes no memory.
+#[tactic(auto, using(crate::proofs::Counted::counted))]
 pub fn is_interleaving(
     scripts: &[Vec<Event>],
     history: &[Entry],

@@ -4,9 +4,9 @@ ghost use Rattle.tv_histories.specs.Shown.{publishes};
 
 use tv_events::Answer;
 
-#[tactic(auto, unfolding(crate::specs::Shown::publishes))]
 /// Whether an answer tells that the first reader shows something else: it was made or reloaded, or a notice
 /// to it was served. Takes no memory.
+#[tactic(auto, unfolding(crate::specs::Shown::publishes))]
 pub fn publishes(answer: &Answer) -> bool
     ensures { result ≡ publishes answer.now }
 {

@@ -142,7 +142,7 @@ module _ {S : Type 0} (g : Ghosts S) (n : Name) (old new : Log S) (event : Event
     opened = λ _. e.stands;
     shows = shows;
     begins = begins;
-    counts = count_on g n old.store new.store event k.counts answer e.counts e.stands;
+    counts = count_on g n old.store new.store event k.counts was answer e.counts e.stands;
   }
 
 module _ {S : Type 0} (g : Ghosts S) (n : Name) (old new : Log S) (event : Event)
@@ -204,7 +204,8 @@ module _ {S : Type 0} (g : Ghosts S) (n : Name) (old new : Log S) (event : Event
     shows = λ e. absurd (true≢false (sym ended ∙ e));
     begins = λ t s b. subst (λ (l : List Snapshot). IsPrefix l (shown s k.turns)) (sym u.published)
         (k.begins t s b);
-    counts = count_off g n old.store new.store event k.counts error u.counts u.memory;
+    counts = count_off g n old.store new.store event k.counts (k.opened was) error u.counts
+        u.memory u.stands;
   }
 
   stays_as : (new.has_ended ≡ true) → StaysAs old new → Keeps g n new

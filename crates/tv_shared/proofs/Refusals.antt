@@ -1,5 +1,5 @@
 -- What is known of refused calls after one event more.
-use Rattle.std.proofs.Common.{◌≡◌, ◌≢◌, ◌⊎◌, inl, inr, ⊎_elim, ◌<◌, ◌≤◌, ℕ, List, Ok, Err, refl, sym, ◌∙◌, arith}
+use Rattle.std.proofs.Common.{◌≡◌, ◌⊎◌, inl, inr, ⊎_elim, ℕ, List, Ok, Err, refl, subst, ◌∙◌}
 use Rattle.std.specs.Prelude.{◌↔◌}
 use Rattle.tv_base.specs.declared.error.TantivyError.{TantivyError}
 use Rattle.tv_base.specs.declared.error.TantivyError.TheVariants as errors
@@ -30,27 +30,23 @@ failed_or_memory Open error closed memory = absurd (closed refl)
 failed_or_memory Memory error closed memory = inl (memory.0 refl)
 failed_or_memory Failed error closed memory = inr refl
 
-rose_from : (first before now : ℕ) → first ≤ before → Rose before now → Rose first now
-rose_from first before now less rose =
-    ⊎_elim (λ (l : before < now). inl (omega arith)) (λ (e : now ≡ 18446744073709551615). inr e) rose
-
 module _ {S : Type 0} (g : Ghosts S) (n : Name) where
   -- a store that is just opened
   pub count_first : (store : S) → IsStart g n store → KeepsCount g n store
   count_first store i = record {
     since = i.since;
-    grown = let c = i.counted in omega arith;
+    quiet = λ _. i.counted;
     sound = i.sound;
     failed = λ _ f. absurd (open_not_failed (g.stands store) i.opened f);
   }
 
-  module _ (old new : S) (event : Event) (k : KeepsCount g n old) where
+  module _ (old new : S) (event : Event) (k : KeepsCount g n old) (was : g.stands old ≡ Open) where
     -- an event that was applied
     pub count_on : (answer : List ℕ) → CountsIn g old new event (Ok answer) → g.stands new ≡ Open
         → KeepsCount g n new
     count_on answer c opened = record {
       since = c.opened ∙ k.since;
-      grown = let a = k.grown in let b = c.grows in omega arith;
+      quiet = λ _. c.quiet ∙ k.quiet was;
       sound = λ s. c.stays (k.sound s);
       failed = λ _ f. absurd (open_not_failed (g.stands new) opened f);
     }
@@ -63,16 +59,17 @@ module _ {S : Type 0} (g : Ghosts S) (n : Name) where
         (λ (v : Rose (g.faults old) (g.faults new) ⊎ ((error ≡ errors.Exhausted) × g.spent old event)).
         ⊎_elim
         (λ (r : Rose (g.faults old) (g.faults new)).
-        inl (rose_from n.faults (g.faults old) (g.faults new) k.grown r))
+        inl (subst (λ (before : ℕ). Rose before (g.faults new)) (k.quiet was) r))
         (λ (t : (error ≡ errors.Exhausted) × g.spent old event). inr (old, event, t.1)) v)
         (c.err (k.sound s))
 
     -- an event that was refused
     pub count_off : (error : TantivyError) → CountsIn g old new event (Err error)
-        → ((g.stands new ≡ Memory) ↔ (error ≡ errors.Memory)) → KeepsCount g n new
-    count_off error c memory = record {
+        → ((g.stands new ≡ Memory) ↔ (error ≡ errors.Memory)) → (g.stands new ≡ Open → ⊥)
+        → KeepsCount g n new
+    count_off error c memory closed = record {
       since = c.opened ∙ k.since;
-      grown = let a = k.grown in let b = c.grows in omega arith;
+      quiet = λ o. absurd (closed o);
       sound = λ s. c.stays (k.sound s);
       failed = λ s f. why error c memory s f;
     }

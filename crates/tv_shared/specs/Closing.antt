@@ -11,7 +11,7 @@ use Rattle.tv_shared.specs.declared.closed.Closed.{Closed}
 use Rattle.tv_shared.specs.Names.{Name}
 use Rattle.tv_stepping.specs.declared.event_store.EventStore.{Ghosts}
 
--- the snapshots that were published
+-- the snapshots that were published, of a store that is shared no more
 abbrev pub publications : {S N : Type 0} → Closed S N → List Snapshot
 publications closed = closed.publisher
 

@@ -20,7 +20,7 @@ pub record Log (S : Type 0) : Type 0 where
   pub published : List Snapshot
   pub has_ended : Bool
 
--- what stands under the lock, of its parts
+-- the log of these parts
 abbrev pub log_of : {S : Type 0} → S → List Entry → List Snapshot → Bool → Log S
 log_of store history published has_ended =
     record { store = store; history = history; published = published; has_ended = has_ended }

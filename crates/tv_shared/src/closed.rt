@@ -29,10 +29,12 @@ impl<S: EventStore, N: Opening> Closed<S, N> {
     pub(crate) fn of(alloc: Global, locked: Locked<S, N>, receipts: &[Receipt]) -> Closed<S, N>
         requires { has_reader locked.history ≡ true }
         ensures closed { IfOk result.outcome (λ history.
-            HasClosed S.EventStore (name_of N.Opening) result.store history.items (publications result)) }
+            HasClosed S.EventStore (name_of N.Opening) result.store history.items
+            (publications result)) }
         ensures receipts { IfOk result.outcome (λ history. AllStand history.items receipts.now) }
         ensures differs { IfErr result.outcome
-            (IsNotClosed S.EventStore (name_of N.Opening) result.store (publications result) receipts.now) }
+            (IsNotClosed S.EventStore (name_of N.Opening) result.store (publications result)
+            receipts.now) }
     {
         let Locked {
             store,

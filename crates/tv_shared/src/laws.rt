@@ -93,9 +93,11 @@ pub fn what_is_published_is_what_the_first_reader_shows<S: EventStore, N: Openin
 }
 
 /// A store from a sound start says that it failed only where a call was refused since its opening, or where
-/// with an event a number would have passed `u64::MAX`.
+/// with an event a number would have passed `u64::MAX`. While it is open none was refused since.
 pub fn a_failure_has_a_cause<S: EventStore, N: Opening>(locked: &Locked<S, N>)
-    ensures { N.sound → S.stands locked.now.store ≡ Ending.Failed
+    ensures quiet { S.stands locked.now.store ≡ Ending.Open
+        → S.faults locked.now.store ≡ N.faults }
+    ensures cause { N.sound → S.stands locked.now.store ≡ Ending.Failed
         → Rose N.faults (S.faults locked.now.store)
         ⊎ ((before : _) × (event : _) × S.spent before event) }
 {

@@ -238,7 +238,8 @@ fn race_named<S: EventStore + Send, N: Opening + Send, R: Threads + Wait + Sync,
         × IsRaced S.EventStore (name_of N.Opening) result.store (map (λ s. s.items) scripts.now)) }
     ensures seen { IfOk result.outcome (λ seen. length seen.items ≡ handles) }
     ensures fails { IfErr result.outcome (λ error. result.was_shared ≡ true
-        → HasFailed S.EventStore (name_of N.Opening) result.store (map (λ s. s.items) scripts.now) error) }
+        → HasFailed S.EventStore (name_of N.Opening) result.store
+        (map (λ s. s.items) scripts.now) error) }
     ensures begins { IfErr result.outcome (λ error. result.was_shared ≡ false
         → HasNotBegun S.EventStore (name_of N.Opening) store result.store error) }
 {

@@ -132,10 +132,12 @@ impl<S: EventStore, N: Opening> SharedStore<S, N> {
     /// Shares the store no more, and looks for each receipt at its place of the history.
     pub fn close(self, alloc: Global, receipts: &[Receipt]) -> Closed<S, N>
         ensures closed { IfOk result.outcome (λ history.
-            HasClosed S.EventStore (name_of N.Opening) result.store history.items (publications result)) }
+            HasClosed S.EventStore (name_of N.Opening) result.store history.items
+            (publications result)) }
         ensures receipts { IfOk result.outcome (λ history. AllStand history.items receipts.now) }
         ensures differs { IfErr result.outcome
-            (IsNotClosed S.EventStore (name_of N.Opening) result.store (publications result) receipts.now) }
+            (IsNotClosed S.EventStore (name_of N.Opening) result.store (publications result)
+            receipts.now) }
     {
         let Self { locked: shared } = self;
         let Begun { locked } = shared.into_inner();

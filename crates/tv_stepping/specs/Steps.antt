@@ -1,5 +1,5 @@
 -- One step of a store.
-use Rattle.std.specs.Prelude.{ℕ, ◌≡◌, ◌≤◌, ◌⊎◌, ◌↔◌, Bool, true, List, [], ◌∷◌, ◌++◌, Result, IfErr, IfOk, OnErr, OnOk}
+use Rattle.std.specs.Prelude.{ℕ, ◌≡◌, ◌⊎◌, ◌↔◌, Bool, true, List, [], ◌∷◌, ◌++◌, Result, IfErr, IfOk, OnErr, OnOk}
 use Rattle.tv_base.specs.declared.error.TantivyError.{TantivyError}
 use Rattle.tv_base.specs.declared.error.TantivyError.TheVariants as errors
 use Rattle.tv_events.specs.declared.event.Event.{Event}
@@ -43,13 +43,13 @@ pub record StandsAfter {A : Type 0} (stands : Ending) (result : Result A Tantivy
   pub err : OnErr result (stands ≡ ending.Open → ⊥)
   pub memory : IfErr result (λ error. (stands ≡ ending.Memory) ↔ (error ≡ errors.Memory))
 
--- How often the outside refused a call: the count at the opening stays, and the count of now never falls. A store
--- that came from a sound start still does; and of such a store an error is want of memory, or the count rose, or
--- with this event a number would be spent.
+-- How often the outside refused a call: the count at the opening stays, and an event that is applied leaves that
+-- of now as it was. A store that came from a sound start still does. Of such a store an error is want of memory, or
+-- the count rose, or with this event a number would be spent.
 pub record Counts {S : Type 0} (since faults : S → ℕ) (sound : S → Type 0) (spent : S → Event → Type 0)
     (old new : S) (event : Event) (result : Result (List ℕ) TantivyError) : Type 0 where
   pub opened : since new ≡ since old
-  pub grows : faults old ≤ faults new
+  pub quiet : OnOk result (faults new ≡ faults old)
   pub stays : sound old → sound new
   pub err : IfErr result (λ error. sound old → (error ≡ errors.Memory)
       ⊎ (Rose (faults old) (faults new) ⊎ ((error ≡ errors.Exhausted) × spent old event)))

@@ -1,7 +1,7 @@
 //! A store of which one event after the other is applied.
 ghost use Rattle.std.specs.Prelude.{◌≡◌, ℕ, IfErr, IfOk, option_map};
-ghost use Rattle.tv_base.specs.declared.error.TantivyError.{TantivyError as Refusal};
-ghost use Rattle.tv_events.specs.declared.event.Event.{Event as Happening};
+ghost use Rattle.tv_base.specs.declared.error.TantivyError.{TantivyError};
+ghost use Rattle.tv_events.specs.declared.event.Event.{Event};
 ghost use Rattle.tv_formats.specs.Files.{Heard};
 ghost use Rattle.tv_machine.specs.State.{State, reader_at};
 ghost use Rattle.tv_stepping.specs.Steps.{Counts, Steps, StandsAfter, TellsAnswer};
@@ -31,7 +31,7 @@ pub trait EventStore {
     ghost stands: { Self → Standing };
 
     /// Why an event may be refused: what the store was before and is then, the event, and the error.
-    ghost refused: { Self → Self → Happening → Refusal → Type 0 };
+    ghost refused: { Self → Self → Event → TantivyError → Type 0 };
 
     /// How many calls its outside had refused when it was opened.
     ghost since: { Self → ℕ };
@@ -43,7 +43,7 @@ pub trait EventStore {
     ghost sound: { Self → Type 0 };
 
     /// With this event a number of it would pass `u64::MAX`.
-    ghost spent: { Self → Happening → Type 0 };
+    ghost spent: { Self → Event → Type 0 };
 
     /// Makes one step of the machine, and tells its line. After an error it isn't open.
     fn apply(&mut self, event: &Event) -> Result<Answer, TantivyError>

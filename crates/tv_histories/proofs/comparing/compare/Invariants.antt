@@ -1,4 +1,4 @@
-use Rattle.tv_histories.specs.Receipts.{StandBelow}
+use Rattle.tv_histories.proofs.Standing.{StandBelow}
 use Rattle.tv_histories.proofs.comparing.compare.Given as goal
 
 abbrev pub invariant-loop-receipt : goal.invariant-loop-receipt

@@ -1,5 +1,6 @@
 use Rattle.std.specs.Prelude.{◌≡◌, false}
-use Rattle.tv_histories.specs.Races.{AreFirst, fault_among, first_of}
+use Rattle.tv_histories.specs.Races.{fault_among, first_of}
+use Rattle.tv_histories.proofs.Races.{AreFirst}
 use Rattle.tv_histories.proofs.gathering.all_or_fault.Given as goal
 
 abbrev pub invariant-loop-answer : goal.invariant-loop-answer

@@ -1,7 +1,6 @@
 use Rattle.std.proofs.Common.{◌≡◌, ◌<◌, [], ◌∷◌, ◌++◌, length, length-append, Some, slice_get, set, ap, sym, subst, refl, ◌∙◌, arith}
 use Rattle.std.proofs.lemmas.Option.{slice_get_within, get_or_from_slice_get}
-use Rattle.tv_histories.specs.Merging.{IsMerging}
-use Rattle.tv_histories.proofs.Mixing.{ends_at, goes}
+use Rattle.tv_histories.proofs.Mixing.{IsMerging, ends_at, goes}
 use Rattle.tv_histories.proofs.merged.merge.Goals as goal
 
 pub returns-in-None : goal.returns-in-None

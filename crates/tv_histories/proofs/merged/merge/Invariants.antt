@@ -1,5 +1,5 @@
 use Rattle.std.proofs.Common.{◌≡◌, ◌+◌, length}
-use Rattle.tv_histories.specs.Merging.{IsMerging}
+use Rattle.tv_histories.proofs.Mixing.{IsMerging}
 use Rattle.tv_histories.proofs.merged.merge.Given as goal
 
 abbrev pub invariant-loop-place : goal.invariant-loop-place

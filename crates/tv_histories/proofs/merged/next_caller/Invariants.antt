@@ -1,4 +1,4 @@
-use Rattle.tv_histories.specs.Merging.{IsLeast}
+use Rattle.tv_histories.proofs.Mixing.{IsLeast}
 use Rattle.tv_histories.proofs.merged.next_caller.Given as goal
 
 abbrev pub invariant-loop-caller : goal.invariant-loop-caller
